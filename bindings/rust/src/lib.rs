@@ -33,7 +33,7 @@ pub fn optimize(source: &str, options: &Options) -> Result<String, Error> {
 }
 
 /// What is wrong with a script, in the order of its text: that it is none, a fault, a call without a meaning, a name that
-/// nothing declares, a statement that never runs.
+/// nothing in sight declares or uses, a value that is dropped, a statement that never runs, and the like.
 pub fn check(source: &str) -> Vec<Finding> {
     check_with(source, &Options::default())
 }

@@ -178,7 +178,8 @@ fn is_given(expr: &Expr) -> bool
         Expr::DynamicConstant(_, _) | Expr::BoolConstant(_, _) | Expr::IntegerConstant(_, _) => {
             true
         }
-        Expr::CharConstant(_, _) | Expr::StringConstant(_, _) | Expr::Unit(_) => true,
+        Expr::FloatConstant(_, _) | Expr::CharConstant(_, _) => true,
+        Expr::StringConstant(_, _) | Expr::Unit(_) => true,
         Expr::Array(items, _) => are_given(items.get().as_slice()),
         Expr::Map(map, _) => have_given(map.get().0.as_slice()),
         Expr::FnCall(call, _) => is_range(call.get()),

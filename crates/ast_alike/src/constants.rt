@@ -44,6 +44,7 @@ fn literal_of(alloc: Global, value: &Dynamic) -> Result<Expr, OutOfMemory>
         Dynamic::Unit => Ok(Expr::Unit(Position::NONE)),
         Dynamic::Bool(value) => Ok(Expr::BoolConstant(*value, Position::NONE)),
         Dynamic::Int(value) => Ok(Expr::IntegerConstant(*value, Position::NONE)),
+        Dynamic::Float(value) => Ok(Expr::FloatConstant(*value, Position::NONE)),
         Dynamic::Char(value) => Ok(Expr::CharConstant(*value, Position::NONE)),
         Dynamic::Str(value) => Ok(Expr::StringConstant(value.clone()?, Position::NONE)),
         Dynamic::Array(items) => array_literal(alloc, items.as_slice()),

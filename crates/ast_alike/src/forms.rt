@@ -39,7 +39,8 @@ pub(crate) fn has_role(expr: &Expr) -> bool
         Expr::DynamicConstant(_, _) | Expr::BoolConstant(_, _) | Expr::IntegerConstant(_, _) => {
             false
         }
-        Expr::CharConstant(_, _) | Expr::StringConstant(_, _) | Expr::Unit(_) => false,
+        Expr::FloatConstant(_, _) | Expr::CharConstant(_, _) => false,
+        Expr::StringConstant(_, _) | Expr::Unit(_) => false,
         Expr::InterpolatedString(_, _) | Expr::Array(_, _) | Expr::Map(_, _) => false,
         Expr::Stmt(_) | Expr::FnCall(_, _) => false,
         Expr::And(_, _) | Expr::Or(_, _) | Expr::Coalesce(_, _) => false,
@@ -57,7 +58,8 @@ pub(crate) fn is_literal_unit(expr: &Expr) -> bool
         Expr::DynamicConstant(_, _) | Expr::BoolConstant(_, _) | Expr::IntegerConstant(_, _) => {
             false
         }
-        Expr::CharConstant(_, _) | Expr::StringConstant(_, _) => false,
+        Expr::FloatConstant(_, _) | Expr::CharConstant(_, _) => false,
+        Expr::StringConstant(_, _) => false,
         Expr::InterpolatedString(_, _) | Expr::Array(_, _) | Expr::Map(_, _) => false,
         Expr::Stmt(_) | Expr::FnCall(_, _) => false,
         Expr::And(_, _) | Expr::Or(_, _) | Expr::Coalesce(_, _) => false,
@@ -73,7 +75,8 @@ pub(crate) fn is_true(expr: &Expr) -> bool
         Expr::Variable(_, _, _) | Expr::ThisPtr(_) | Expr::Property(_, _) => false,
         Expr::MethodCall(_, _) | Expr::Dot(_, _, _) | Expr::Index(_, _, _) => false,
         Expr::DynamicConstant(_, _) | Expr::IntegerConstant(_, _) | Expr::Unit(_) => false,
-        Expr::CharConstant(_, _) | Expr::StringConstant(_, _) => false,
+        Expr::FloatConstant(_, _) | Expr::CharConstant(_, _) => false,
+        Expr::StringConstant(_, _) => false,
         Expr::InterpolatedString(_, _) | Expr::Array(_, _) | Expr::Map(_, _) => false,
         Expr::Stmt(_) | Expr::FnCall(_, _) => false,
         Expr::And(_, _) | Expr::Or(_, _) | Expr::Coalesce(_, _) => false,
@@ -89,7 +92,8 @@ fn is_last(dot: bool, rhs: &Expr) -> bool
         Expr::Variable(_, _, _) | Expr::ThisPtr(_) | Expr::Property(_, _) => dot,
         Expr::MethodCall(_, _) | Expr::Stmt(_) | Expr::FnCall(_, _) => dot,
         Expr::DynamicConstant(_, _) | Expr::BoolConstant(_, _) | Expr::IntegerConstant(_, _) => dot,
-        Expr::CharConstant(_, _) | Expr::StringConstant(_, _) | Expr::Unit(_) => dot,
+        Expr::FloatConstant(_, _) | Expr::CharConstant(_, _) => dot,
+        Expr::StringConstant(_, _) | Expr::Unit(_) => dot,
         Expr::InterpolatedString(_, _) | Expr::Array(_, _) | Expr::Map(_, _) => dot,
         Expr::And(_, _) | Expr::Or(_, _) | Expr::Coalesce(_, _) => dot,
     }

@@ -34,6 +34,7 @@ fn bare_expr(alloc: Global, expr: &Expr) -> Result<Expr, OutOfMemory>
         Expr::DynamicConstant(value, _) => bare_constant(alloc, value.get()),
         Expr::BoolConstant(_, _)
         | Expr::IntegerConstant(_, _)
+        | Expr::FloatConstant(_, _)
         | Expr::CharConstant(_, _)
         | Expr::StringConstant(_, _)
         | Expr::Unit(_)

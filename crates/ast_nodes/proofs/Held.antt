@@ -3,7 +3,7 @@ use Rattle.std.proofs.Common.{◌≡◌, ◌≢◌, false, refl}
 use Rattle.rhai_base.specs.declared.dynamic.Dynamic.{Dynamic}
 use Rattle.rhai_base.specs.declared.dynamic.Dynamic.TheVariants as kind
 use Rattle.rhai_base.specs.declared.fn_ptr.FnPtr.{FnPtr}
-use Rattle.rhai_base.specs.Reading.{value_of, DynamicCase, unit_case, bool_case, int_case, char_case, str_case, fn_ptr_case, dynamic_cases}
+use Rattle.rhai_base.specs.Reading.{value_of, DynamicCase, unit_case, bool_case, int_case, float_case, char_case, str_case, fn_ptr_case, dynamic_cases}
 use Rattle.rhai_base.specs.Value.{Text, Value}
 use Rattle.theory_meaning.specs.Constants.{constant_for}
 use Rattle.theory_meaning.specs.Tree.{DynamicConstant}
@@ -13,6 +13,7 @@ held_by : {v : Dynamic} {w : Value} → DynamicCase v w → is_scalar w ≡ fals
 held_by unit_case s t p = cc
 held_by (bool_case x) s t p = cc
 held_by (int_case x) s t p = cc
+held_by (float_case x) s t p = cc
 held_by (char_case x) s t p = cc
 held_by (str_case x) s t p = absurd (t x refl)
 held_by (fn_ptr_case x) s t p = absurd (p x refl)

@@ -34,11 +34,11 @@ pub values_before-all : (xs : List Expr) (i : ℕ) (vs : List Value) → i ≡ l
 values_before-all xs i vs e h =
     h ∙ ap (λ j. values_before vs (constant_values (exprs_of (drop j xs)))) e ∙ ap (λ es. values_before vs (constant_values es)) (exprs_of-end xs) ∙ values_before-end vs
 
-texts_joined-first : (v : Value) (vs : List Value) → texts_joined (v ∷ vs) ≡ text_of v ++ texts_joined vs
+texts_joined-first : (v : Value) (vs : List Value) → texts_joined text_of (v ∷ vs) ≡ text_of v ++ texts_joined text_of vs
 unfolding texts_joined text_of
 texts_joined-first v vs = refl
 
-texts_joined-none : texts_joined [] ≡ []
+texts_joined-none : texts_joined text_of [] ≡ []
 unfolding texts_joined
 texts_joined-none = refl
 
@@ -46,7 +46,7 @@ texts_joined-none = refl
 
 abbrev pub joined_from : Text → Option (List Value) → Option Value
 joined_from t None = None
-joined_from t (Some vs) = Some (TextV (t ++ texts_joined vs))
+joined_from t (Some vs) = Some (TextV (t ++ texts_joined text_of vs))
 
 joined_from-end : (t : Text) → joined_from t (Some []) ≡ Some (TextV t)
 joined_from-end t = ap (λ u. Some (TextV (t ++ u))) texts_joined-none ∙ ap (λ u. Some (TextV u)) (append-nil t)
@@ -57,7 +57,7 @@ joined_from-start (Some vs) = refl
 
 pub joined_from-more : (t : Text) (v : Value) (ws : Option (List Value)) → joined_from t (value_and (Some v) ws) ≡ joined_from (t ++ text_of v) ws
 joined_from-more t v None = refl
-joined_from-more t v (Some ws) = ap (λ u. Some (TextV (t ++ u))) (texts_joined-first v ws) ∙ ap (λ u. Some (TextV u)) (sym (append_assoc t (text_of v) (texts_joined ws)))
+joined_from-more t v (Some ws) = ap (λ u. Some (TextV (t ++ u))) (texts_joined-first v ws) ∙ ap (λ u. Some (TextV u)) (sym (append_assoc t (text_of v) (texts_joined text_of ws)))
 
 pub joined_from-all : (xs : List Expr) (i : ℕ) (t : Text) → i ≡ length xs
     → joined_value (constant_values (exprs_of xs)) ≡ joined_from t (constant_values (exprs_of (drop i xs))) → joined_value (constant_values (exprs_of xs)) ≡ Some (TextV t)

@@ -2,6 +2,7 @@
 use Rattle.std.specs.Prelude.{◌≡◌, ℕ, ℤ, Bool, List, map, Option}
 use Rattle.std.proofs.Common.{sym, ap, ◌∙◌}
 use Rattle.rhai_base.specs.declared.dynamic.Dynamic.{Dynamic}
+use Rattle.rhai_base.specs.declared.float_wrapper.FloatWrapper.{FloatWrapper}
 use Rattle.base_tokens.specs.declared.op_assignment.OpAssignment.{OpAssignment}
 use Rattle.base_tokens.specs.declared.position.Position.{Position}
 use Rattle.base_tokens.specs.declared.position.Span.{Span}
@@ -34,6 +35,7 @@ abbrev pub placed_in : Position → ExprLayer → declared_expr.Expr
 placed_in p (open_one.DynamicConstant v q) = expr_kind.DynamicConstant v p
 placed_in p (open_one.BoolConstant b q) = expr_kind.BoolConstant b p
 placed_in p (open_one.IntegerConstant n q) = expr_kind.IntegerConstant n p
+placed_in p (open_one.FloatConstant x q) = expr_kind.FloatConstant x p
 placed_in p (open_one.CharConstant c q) = expr_kind.CharConstant c p
 placed_in p (open_one.StringConstant t q) = expr_kind.StringConstant t p
 placed_in p (open_one.InterpolatedString xs q) = expr_kind.InterpolatedString xs p
@@ -101,6 +103,9 @@ placed-BoolConstant p b q = ap (placed p) (sym (expr_kind.rolls-BoolConstant b q
 
 pub placed-IntegerConstant : (p : Position) (n : ℤ) (q : Position) → placed p (expr_kind.IntegerConstant n q) ≡ expr_kind.IntegerConstant n p
 placed-IntegerConstant p n q = ap (placed p) (sym (expr_kind.rolls-IntegerConstant n q)) ∙ placed-roll p (open_one.IntegerConstant n q)
+
+pub placed-FloatConstant : (p : Position) (x : FloatWrapper) (q : Position) → placed p (expr_kind.FloatConstant x q) ≡ expr_kind.FloatConstant x p
+placed-FloatConstant p x q = ap (placed p) (sym (expr_kind.rolls-FloatConstant x q)) ∙ placed-roll p (open_one.FloatConstant x q)
 
 pub placed-CharConstant : (p : Position) (c : ℕ) (q : Position) → placed p (expr_kind.CharConstant c q) ≡ expr_kind.CharConstant c p
 placed-CharConstant p c q = ap (placed p) (sym (expr_kind.rolls-CharConstant c q)) ∙ placed-roll p (open_one.CharConstant c q)
@@ -208,6 +213,7 @@ pub ruleset placements = (
   placed-DynamicConstant,
   placed-BoolConstant,
   placed-IntegerConstant,
+  placed-FloatConstant,
   placed-CharConstant,
   placed-StringConstant,
   placed-InterpolatedString,

@@ -26,6 +26,7 @@ pub fn constant_for(alloc: Global, value: Dynamic, pos: Position) -> Result<Expr
         Dynamic::Unit => Ok(Expr::Unit(pos)),
         Dynamic::Bool(b) => Ok(Expr::BoolConstant(*b, pos)),
         Dynamic::Int(n) => Ok(Expr::IntegerConstant(*n, pos)),
+        Dynamic::Float(x) => Ok(Expr::FloatConstant(*x, pos)),
         Dynamic::Char(c) => Ok(Expr::CharConstant(*c, pos)),
         Dynamic::Str(_)
         | Dynamic::Array(_)

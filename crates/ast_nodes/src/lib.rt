@@ -23,8 +23,9 @@ pub use making::{
 };
 pub use place::{place_expr, place_stmt};
 pub use queries::{
-    are_constant, is_block_dependent, is_call_of, is_constant, is_internally_pure, is_pure,
-    is_pure_expr, is_table, operands, position, start_position, stmt_position,
+    are_constant, are_floatless, is_block_dependent, is_call_of, is_constant, is_floatless,
+    is_internally_pure, is_pure, is_pure_expr, is_table, operands, position, start_position,
+    stmt_position,
 };
 pub use switch::{case_list, switch_table};
 pub use taken::value_of_constant;

@@ -16,7 +16,7 @@ ghost use Rattle.ast_types.specs.Reading.{callee_of, expr_of, exprs_of, pairs_of
 ghost use Rattle.theory_meaning.specs.Constants as constants;
 ghost use Rattle.theory_meaning.specs.Tree.{FnCall, expr, no_exprs};
 
-use crate::queries::is_constant;
+use crate::queries::{are_floatless, is_constant};
 use ast_types::{Expr, FnCallExpr};
 use rhai_base::{
     Dynamic, Fault, FnPtr, Ident, ImmutableString, OutOfMemory, Seq, StringMap, Token,
@@ -76,6 +76,7 @@ fn lend_value(alloc: Global, expr: &Expr) -> Result<Option<Cow<'_, Dynamic>>, Ou
         Expr::DynamicConstant(value, _) => Ok(Some(Cow::Borrowed(value.get()))),
         Expr::BoolConstant(b, _) => Ok(Some(Cow::Owned(Dynamic::Bool(*b)))),
         Expr::IntegerConstant(n, _) => Ok(Some(Cow::Owned(Dynamic::Int(*n)))),
+        Expr::FloatConstant(x, _) => Ok(Some(Cow::Owned(Dynamic::Float(*x)))),
         Expr::CharConstant(c, _) => Ok(Some(Cow::Owned(Dynamic::Char(*c)))),
         Expr::StringConstant(text, _) => Ok(Some(Cow::Owned(Dynamic::Str(text.clone()?)))),
         Expr::Unit(_) => Ok(Some(Cow::Owned(Dynamic::Unit))),
@@ -120,15 +121,18 @@ fn array_value<'a>(
     Ok(Some(Cow::Owned(Dynamic::Array(Seq::from_vec(values)))))
 }
 
-/// The value of an interpolated text.
+/// The value of an interpolated text; one with a float is the host's to write.
 #[cycle(lend_value)]
 fn joined_value<'a>(
     alloc: Global,
     parts: &'a [Expr],
 ) -> Result<Option<Cow<'a, Dynamic>>, OutOfMemory>
     ensures { IfOk result (λ v. lent_value v
-        ≡ constants.joined_value (constants.constant_values (exprs_of parts.now))) }
+        ≡ constants.joined_value (constants.text_constants (exprs_of parts.now))) }
 {
+    if !are_floatless(parts) {
+        return Ok(None);
+    }
     let mut text = String::new(alloc);
     for part in parts {
         match lend_value(alloc, part)? {

@@ -33,6 +33,7 @@ fn placed_expr(expr: Expr, pos: Position) -> Expr
         Expr::DynamicConstant(value, _) => Expr::DynamicConstant(value, pos),
         Expr::BoolConstant(b, _) => Expr::BoolConstant(b, pos),
         Expr::IntegerConstant(n, _) => Expr::IntegerConstant(n, pos),
+        Expr::FloatConstant(x, _) => Expr::FloatConstant(x, pos),
         Expr::CharConstant(c, _) => Expr::CharConstant(c, pos),
         Expr::StringConstant(text, _) => Expr::StringConstant(text, pos),
         Expr::InterpolatedString(parts, _) => Expr::InterpolatedString(parts, pos),

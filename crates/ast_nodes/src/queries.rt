@@ -2,6 +2,7 @@
 
 mod block_dependence;
 mod constants;
+mod floatless;
 mod internal_purity;
 mod operators;
 mod positions;
@@ -10,6 +11,7 @@ mod switch_table;
 
 pub use block_dependence::is_block_dependent;
 pub use constants::{are_constant, is_constant};
+pub use floatless::{are_floatless, is_floatless};
 pub use internal_purity::is_internally_pure;
 pub use operators::{is_call_of, operands};
 pub use positions::{position, start_position, stmt_position};

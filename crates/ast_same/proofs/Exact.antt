@@ -7,7 +7,7 @@ use Rattle.rhai_base.specs.Value.{Text, same_bool, same_int, same_text}
 use Rattle.rhai_base.proofs.Same.{same_exact, same_itself}
 use Rattle.theory_meaning.specs.Calls.{same_type}
 use Rattle.theory_meaning.specs.Engine.{same_texts}
-use Rattle.theory_meaning.specs.Tree.{Callee, ChainFlags, PropertyNames, IntRange, ExclusiveInt, InclusiveInt, SwitchCase, SwitchRange, SwitchTable, Expr, DynamicConstant, BoolConstant, IntegerConstant, CharConstant, StringConstant, UnitConstant, InterpolatedString, ArrayOf, MapOf, Variable, ThisPtr, Property, MethodCall, BlockExpr, FnCall, Dot, Index, And, Or, Coalesce, Exprs, no_exprs, expr, Pairs, no_pairs, pair, MaybeExpr, no_expr, an_expr, Arms, no_arms, arm, Stmt, Noop, If, Switch, While, Do, For, Var, Assignment, FnCallStmt, Block, TryCatch, ExprStmt, BreakLoop, Return, Import, Export, Share, Stmts, no_stmts, stmt, Function, Script}
+use Rattle.theory_meaning.specs.Tree.{Callee, ChainFlags, PropertyNames, IntRange, ExclusiveInt, InclusiveInt, SwitchCase, SwitchRange, SwitchTable, Expr, DynamicConstant, BoolConstant, IntegerConstant, FloatConstant, CharConstant, StringConstant, UnitConstant, InterpolatedString, ArrayOf, MapOf, Variable, ThisPtr, Property, MethodCall, BlockExpr, FnCall, Dot, Index, And, Or, Coalesce, Exprs, no_exprs, expr, Pairs, no_pairs, pair, MaybeExpr, no_expr, an_expr, Arms, no_arms, arm, Stmt, Noop, If, Switch, While, Do, For, Var, Assignment, FnCallStmt, Block, TryCatch, ExprStmt, BreakLoop, Return, Import, Export, Share, Stmts, no_stmts, stmt, Function, Script}
 use Rattle.ast_same.specs.Alike.{operator_number, token_number, alike_callee, alike_flags, alike_property, is_inclusive, start_of, end_of, alike_range, alike_ranges, alike_case, alike_cases, alike_default, alike_table, alike_expr, alike_exprs, alike_pairs, alike_maybe, alike_arms, alike_stmt, alike_stmts, nameless, alike_but_name, alike_function, alike_functions, alike_script}
 use Rattle.ast_same.proofs.Tokens.{operator_exact, token_exact}
 
@@ -120,6 +120,7 @@ mutual
   expr_exact (DynamicConstant a) (DynamicConstant b) h = ap DynamicConstant (same_exact a b h)
   expr_exact (BoolConstant a) (BoolConstant b) h = ap BoolConstant (bool_exact a b h)
   expr_exact (IntegerConstant a) (IntegerConstant b) h = ap IntegerConstant (int_exact a b h)
+  expr_exact (FloatConstant a) (FloatConstant b) h = ap FloatConstant (number_exact a b h)
   expr_exact (CharConstant a) (CharConstant b) h = ap CharConstant (number_exact a b h)
   expr_exact (StringConstant a) (StringConstant b) h = ap StringConstant (text_exact a b h)
   expr_exact UnitConstant UnitConstant h = refl
@@ -268,6 +269,7 @@ mutual
   expr_itself (DynamicConstant a) = same_itself a
   expr_itself (BoolConstant a) = bool_itself a
   expr_itself (IntegerConstant a) = int_itself a
+  expr_itself (FloatConstant a) = number_itself a
   expr_itself (CharConstant a) = number_itself a
   expr_itself (StringConstant a) = text_itself a
   expr_itself UnitConstant = refl

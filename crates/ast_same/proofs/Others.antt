@@ -1,13 +1,14 @@
 -- Nodes of other kinds are not alike.
 use Rattle.std.proofs.Common.{◌≡◌, ℕ, ℤ, Bool, false, List, Option, refl}
 use Rattle.base_tokens.specs.declared.position.Position.{Position}
+use Rattle.rhai_base.specs.declared.float_wrapper.FloatWrapper.{FloatWrapper}
 use Rattle.rhai_base.specs.Value.{Text, Value}
 use Rattle.rhai_base.specs.Operators.{Operator}
 use Rattle.ast_types.specs.declared.expr.Expr as declared_expr
 use Rattle.ast_types.specs.declared.expr.Expr.TheVariants as expr_kind
 use Rattle.ast_types.specs.declared.stmt.Stmt as declared_stmt
-use Rattle.theory_meaning.specs.Tree.{Callee, ChainFlags, PropertyNames, SwitchTable, Exprs, Pairs, MaybeExpr, Arms, Stmts, Expr, Stmt, DynamicConstant, BoolConstant, IntegerConstant, CharConstant, StringConstant, InterpolatedString, ArrayOf, MapOf, UnitConstant, Variable, ThisPtr, Property, MethodCall, BlockExpr, FnCall, Dot, Index, And, Or, Coalesce, Noop, If, Switch, While, Do, For, Var, Assignment, FnCallStmt, Block, TryCatch, ExprStmt, BreakLoop, Return, Import, Export, Share}
-use Rattle.ast_types.proofs.Cases.{ExprCase, StmtCase, dynamic_constant_case, bool_constant_case, integer_constant_case, char_constant_case, string_constant_case, interpolated_string_case, array_case, map_case, unit_case, variable_case, this_ptr_case, property_case, method_call_case, braces_case, call_case, dot_case, index_case, and_case, or_case, coalesce_case, noop_case, if_case, switch_case, while_case, do_case, for_case, var_case, assignment_case, call_statement_case, block_case, try_catch_case, expression_case, break_loop_case, return_case, import_case, export_case, share_case}
+use Rattle.theory_meaning.specs.Tree.{Callee, ChainFlags, PropertyNames, SwitchTable, Exprs, Pairs, MaybeExpr, Arms, Stmts, Expr, Stmt, DynamicConstant, BoolConstant, IntegerConstant, FloatConstant, CharConstant, StringConstant, InterpolatedString, ArrayOf, MapOf, UnitConstant, Variable, ThisPtr, Property, MethodCall, BlockExpr, FnCall, Dot, Index, And, Or, Coalesce, Noop, If, Switch, While, Do, For, Var, Assignment, FnCallStmt, Block, TryCatch, ExprStmt, BreakLoop, Return, Import, Export, Share}
+use Rattle.ast_types.proofs.Cases.{ExprCase, StmtCase, dynamic_constant_case, bool_constant_case, integer_constant_case, float_constant_case, char_constant_case, string_constant_case, interpolated_string_case, array_case, map_case, unit_case, variable_case, this_ptr_case, property_case, method_call_case, braces_case, call_case, dot_case, index_case, and_case, or_case, coalesce_case, noop_case, if_case, switch_case, while_case, do_case, for_case, var_case, assignment_case, call_statement_case, block_case, try_catch_case, expression_case, break_loop_case, return_case, import_case, export_case, share_case}
 use Rattle.ast_same.specs.Alike.{alike_expr, alike_stmt}
 use Rattle.ast_types.proofs.OtherKinds.{NoDynamic, NoBool, NoInteger, NoString, NoText, NoArray, NoMap, NoUnit, NoVariable, NoThis, NoProperty, NoMethod, NoBraces, NoCall, NoDot, NoIndex, NoAnd, NoOr, NoCoalesce, NoNoop, NoIf, NoSwitch, NoWhile, NoDo, NoFor, NoVar, NoAssignment, NoCallStatement, NoBlock, NoTry, NoExpression, NoBreak, NoReturn, NoImport, NoExport, NoShare}
 
@@ -24,6 +25,10 @@ other_bool _ h a = refl
 pub other_integer : {d : declared_expr.Expr} {e : Expr} → ExprCase d e → NoInteger d → (a : ℤ) → false ≡ alike_expr (IntegerConstant a) e
 other_integer (integer_constant_case n p) h a = absurd (h n p refl)
 other_integer _ h a = refl
+
+pub other_float : {d : declared_expr.Expr} {e : Expr} → ExprCase d e → ((x : FloatWrapper) (p : Position) → d ≡ expr_kind.FloatConstant x p → ⊥) → (a : ℕ) → false ≡ alike_expr (FloatConstant a) e
+other_float (float_constant_case x p) h a = absurd (h x p refl)
+other_float _ h a = refl
 
 pub other_char : {d : declared_expr.Expr} {e : Expr} → ExprCase d e → ((n : ℕ) (p : Position) → d ≡ expr_kind.CharConstant n p → ⊥) → (a : ℕ) → false ≡ alike_expr (CharConstant a) e
 other_char (char_constant_case n p) h a = absurd (h n p refl)

@@ -66,6 +66,7 @@ fn expr_hash(expr: &Expr) -> u64 {
         Expr::BoolConstant(value, _) => hash_of(2, value),
         Expr::IntegerConstant(value, _) => hash_of(3, value),
         Expr::CharConstant(value, _) => hash_of(4, value),
+        Expr::FloatConstant(value, _) => hash_of(38, value),
         Expr::StringConstant(text, _) => hash_of(5, text),
         Expr::Variable(parts, _, _) => hash_of(6, &parts.get().1),
         Expr::Property(names, _) => hash_of(7, &names.get().2),

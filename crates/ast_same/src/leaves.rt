@@ -4,13 +4,13 @@
 ghost use Rattle.std.specs.Prelude.{◌≡◌};
 ghost use Rattle.rhai_base.specs.Reading.{value_of};
 ghost use Rattle.ast_types.specs.Reading.{expr_of, path_of, property_names, shared_names, stmt_of};
-ghost use Rattle.theory_meaning.specs.Tree.{BoolConstant, CharConstant, DynamicConstant, Export, IntegerConstant, Noop, Property, Share, StringConstant, ThisPtr, UnitConstant, Variable};
+ghost use Rattle.theory_meaning.specs.Tree.{BoolConstant, CharConstant, DynamicConstant, Export, FloatConstant, IntegerConstant, Noop, Property, Share, StringConstant, ThisPtr, UnitConstant, Variable};
 ghost use Rattle.ast_same.specs.Alike.{alike_expr, alike_stmt};
 
 use crate::names::{alike_path, alike_shared};
 use crate::parts::alike_property;
 use ast_types::{Expr, Stmt};
-use rhai_base::{Dynamic, INT, Ident, ImmutableString, Namespace};
+use rhai_base::{Dynamic, FloatWrapper, INT, Ident, ImmutableString, Namespace};
 use std::num::NonZeroUsize;
 
 pub(crate) fn is_dynamic(value: &Dynamic, second: &Expr) -> bool
@@ -36,6 +36,15 @@ pub(crate) fn is_integer(value: INT, second: &Expr) -> bool
 {
     match second {
         Expr::IntegerConstant(other, _) => value == *other,
+        _ => false,
+    }
+}
+
+pub(crate) fn is_float(value: FloatWrapper, second: &Expr) -> bool
+    ensures { result ≡ alike_expr (FloatConstant value.bits) (expr_of second.now) }
+{
+    match second {
+        Expr::FloatConstant(other, _) => value.bits() == other.bits(),
         _ => false,
     }
 }

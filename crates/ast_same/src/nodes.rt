@@ -9,8 +9,8 @@ ghost use Rattle.theory_meaning.specs.Tree.{And, ArrayOf, Assignment, Block, Blo
 ghost use Rattle.ast_same.specs.Alike.{alike_arms, alike_callee, alike_expr, alike_exprs, alike_maybe, alike_pairs, alike_stmt, alike_stmts};
 
 use crate::leaves::{
-    is_bool, is_char, is_dynamic, is_export, is_integer, is_noop, is_property, is_share, is_string,
-    is_this, is_unit, is_variable,
+    is_bool, is_char, is_dynamic, is_export, is_float, is_integer, is_noop, is_property, is_share,
+    is_string, is_this, is_unit, is_variable,
 };
 use crate::names::{alike_counters, alike_keys};
 use crate::parts::{alike_at, alike_callee, alike_flags, alike_operator};
@@ -27,6 +27,7 @@ pub(crate) fn alike_expr(first: &Expr, second: &Expr) -> bool
         Expr::DynamicConstant(value, _) => is_dynamic(value.get(), second),
         Expr::BoolConstant(value, _) => is_bool(*value, second),
         Expr::IntegerConstant(value, _) => is_integer(*value, second),
+        Expr::FloatConstant(value, _) => is_float(*value, second),
         Expr::CharConstant(value, _) => is_char(*value, second),
         Expr::StringConstant(value, _) => is_string(value.as_str(), second),
         Expr::InterpolatedString(parts, _) => is_interpolated(parts.get().as_slice(), second),

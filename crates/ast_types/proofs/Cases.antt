@@ -8,6 +8,7 @@ use Rattle.base_tokens.specs.declared.flags.ASTFlags.{ASTFlags}
 use Rattle.base_tokens.specs.declared.ident.Ident.{Ident}
 use Rattle.base_tokens.specs.declared.namespace.Namespace.{Namespace}
 use Rattle.rhai_base.specs.declared.dynamic.Dynamic.{Dynamic}
+use Rattle.rhai_base.specs.declared.float_wrapper.FloatWrapper.{FloatWrapper}
 use Rattle.rhai_base.specs.Reading.{value_of}
 use Rattle.rhai_base.specs.Value.{Text}
 use Rattle.rhai_base.specs.Builtin.{operator_of}
@@ -23,14 +24,15 @@ use Rattle.ast_types.specs.declared.stmt.Stmt as declared_stmt
 use Rattle.ast_types.specs.declared.stmt.Stmt.TheVariants as stmt_kind
 use Rattle.ast_types.specs.declared.switch.SwitchBlock.{SwitchBlock}
 use Rattle.ast_types.specs.declared.switch.SwitchCasesCollection.{SwitchCasesCollection}
-use Rattle.theory_meaning.specs.Tree.{Expr, DynamicConstant, BoolConstant, IntegerConstant, CharConstant, StringConstant, UnitConstant, InterpolatedString, ArrayOf, MapOf, Variable, ThisPtr, Property, MethodCall, BlockExpr, FnCall, Dot, Index, And, Or, Coalesce, Stmt, Noop, If, Switch, While, Do, For, Var, Assignment, FnCallStmt, Block, TryCatch, ExprStmt, BreakLoop, Return, Import, Export, Share}
-use Rattle.ast_types.specs.Reading.{is_const, is_exported, is_negated, breaks, chain_flags, path_of, property_names, counter_of, shared_names, keys_of, table_of, subject_of, cases_of, expressions_of, callee_of, pairs_of, maybe_of, arms_of, expr_of, exprs_of, stmt_of, stmts_of, expr_of-DynamicConstant, expr_of-BoolConstant, expr_of-IntegerConstant, expr_of-CharConstant, expr_of-StringConstant, expr_of-InterpolatedString, expr_of-Array, expr_of-Map, expr_of-Unit, expr_of-Variable, expr_of-ThisPtr, expr_of-Property, expr_of-MethodCall, expr_of-Stmt, expr_of-FnCall, expr_of-Dot, expr_of-Index, expr_of-And, expr_of-Or, expr_of-Coalesce, stmt_of-Noop, stmt_of-If, stmt_of-Switch, stmt_of-While, stmt_of-Do, stmt_of-For, stmt_of-Var, stmt_of-Assignment, stmt_of-FnCall, stmt_of-Block, stmt_of-TryCatch, stmt_of-Expr, stmt_of-BreakLoop, stmt_of-Return, stmt_of-Import, stmt_of-Export, stmt_of-Share}
+use Rattle.theory_meaning.specs.Tree.{Expr, DynamicConstant, BoolConstant, IntegerConstant, FloatConstant, CharConstant, StringConstant, UnitConstant, InterpolatedString, ArrayOf, MapOf, Variable, ThisPtr, Property, MethodCall, BlockExpr, FnCall, Dot, Index, And, Or, Coalesce, Stmt, Noop, If, Switch, While, Do, For, Var, Assignment, FnCallStmt, Block, TryCatch, ExprStmt, BreakLoop, Return, Import, Export, Share}
+use Rattle.ast_types.specs.Reading.{is_const, is_exported, is_negated, breaks, chain_flags, path_of, property_names, counter_of, shared_names, keys_of, table_of, subject_of, cases_of, expressions_of, callee_of, pairs_of, maybe_of, arms_of, expr_of, exprs_of, stmt_of, stmts_of, expr_of-DynamicConstant, expr_of-BoolConstant, expr_of-IntegerConstant, expr_of-FloatConstant, expr_of-CharConstant, expr_of-StringConstant, expr_of-InterpolatedString, expr_of-Array, expr_of-Map, expr_of-Unit, expr_of-Variable, expr_of-ThisPtr, expr_of-Property, expr_of-MethodCall, expr_of-Stmt, expr_of-FnCall, expr_of-Dot, expr_of-Index, expr_of-And, expr_of-Or, expr_of-Coalesce, stmt_of-Noop, stmt_of-If, stmt_of-Switch, stmt_of-While, stmt_of-Do, stmt_of-For, stmt_of-Var, stmt_of-Assignment, stmt_of-FnCall, stmt_of-Block, stmt_of-TryCatch, stmt_of-Expr, stmt_of-BreakLoop, stmt_of-Return, stmt_of-Import, stmt_of-Export, stmt_of-Share}
 
 -- an expression, with the tree that it stands for
 pub data ExprCase : declared_expr.Expr → Expr → Type 0 where
   dynamic_constant_case : (v : Dynamic) (p : Position) → ExprCase (expr_kind.DynamicConstant v p) (DynamicConstant (value_of v))
   bool_constant_case : (b : Bool) (p : Position) → ExprCase (expr_kind.BoolConstant b p) (BoolConstant b)
   integer_constant_case : (n : ℤ) (p : Position) → ExprCase (expr_kind.IntegerConstant n p) (IntegerConstant n)
+  float_constant_case : (x : FloatWrapper) (p : Position) → ExprCase (expr_kind.FloatConstant x p) (FloatConstant x.bits)
   char_constant_case : (c : ℕ) (p : Position) → ExprCase (expr_kind.CharConstant c p) (CharConstant c)
   string_constant_case : (t : Text) (p : Position) → ExprCase (expr_kind.StringConstant t p) (StringConstant t)
   interpolated_string_case : (xs : List declared_expr.Expr) (p : Position) → ExprCase (expr_kind.InterpolatedString xs p) (InterpolatedString (exprs_of xs))
@@ -56,6 +58,7 @@ expr_rolled : (x : open_one.Expr-F declared_expr.Expr declared_stmt.Stmt StmtBlo
 expr_rolled (open_one.DynamicConstant v p) = expr_as (expr_kind.rolls-DynamicConstant v p) (expr_of-DynamicConstant v p) (dynamic_constant_case v p)
 expr_rolled (open_one.BoolConstant b p) = expr_as (expr_kind.rolls-BoolConstant b p) (expr_of-BoolConstant b p) (bool_constant_case b p)
 expr_rolled (open_one.IntegerConstant n p) = expr_as (expr_kind.rolls-IntegerConstant n p) (expr_of-IntegerConstant n p) (integer_constant_case n p)
+expr_rolled (open_one.FloatConstant x p) = expr_as (expr_kind.rolls-FloatConstant x p) (expr_of-FloatConstant x p) (float_constant_case x p)
 expr_rolled (open_one.CharConstant c p) = expr_as (expr_kind.rolls-CharConstant c p) (expr_of-CharConstant c p) (char_constant_case c p)
 expr_rolled (open_one.StringConstant t p) = expr_as (expr_kind.rolls-StringConstant t p) (expr_of-StringConstant t p) (string_constant_case t p)
 expr_rolled (open_one.InterpolatedString xs p) = expr_as (expr_kind.rolls-InterpolatedString xs p) (expr_of-InterpolatedString xs p) (interpolated_string_case xs p)

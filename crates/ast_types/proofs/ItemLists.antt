@@ -1,12 +1,12 @@
 -- Lists of trees, item by item, for a loop that goes over one.
-use Rattle.std.proofs.Common.{◌≡◌, ℕ, ◌+◌, ◌<◌, ◌&&◌, List, Option, Some, None, is_some, length, get_or, drop, refl, add-one, ap}
+use Rattle.std.proofs.Common.{◌≡◌, ℕ, ◌+◌, ◌<◌, Bool, true, false, ◌&&◌, List, Option, Some, None, is_some, length, get_or, drop, refl, add-one, ap}
 use Rattle.std.proofs.Math.Seq.{drop-cons, drop-length}
 use Rattle.base_tokens.specs.declared.ident.Ident.{Ident}
 use Rattle.rhai_base.specs.Value.{Text, Value}
 use Rattle.ast_types.specs.declared.expr.Expr.{Expr}
 use Rattle.ast_types.specs.declared.expr.BinaryExpr.{BinaryExpr}
 use Rattle.ast_types.specs.declared.stmt.Stmt.{Stmt}
-use Rattle.theory_meaning.specs.Constants.{array_value, entry_and, joined_value, map_value, value_and}
+use Rattle.theory_meaning.specs.Constants.{array_value, entry_and, joined_value, map_value, value_and, where_floatless}
 use Rattle.theory_meaning.specs.Tree.{arm, expr, no_arms, no_exprs, no_pairs, no_stmts, pair, stmt}
 use Rattle.ast_types.specs.Reading.{arms_of, expr_of, exprs_of, pairs_of, stmt_of, stmts_of}
 
@@ -55,6 +55,10 @@ pub is_some-joined_value : (vs : Option (List Value)) → is_some (joined_value 
 is_some-joined_value None = refl
 is_some-joined_value (Some vs) = refl
 
+pub is_some-where_floatless : (b : Bool) (vs : Option (List Value)) → is_some (where_floatless b vs) ≡ (b && is_some vs)
+is_some-where_floatless true vs = refl
+is_some-where_floatless false vs = refl
+
 pub is_some-map_value : (vs : Option (List (Text × Value))) → is_some (map_value vs) ≡ is_some vs
 is_some-map_value None = refl
 is_some-map_value (Some vs) = refl
@@ -72,5 +76,6 @@ pub ruleset steps = (
   is_some-entry_and,
   is_some-array_value,
   is_some-joined_value,
+  is_some-where_floatless,
   is_some-map_value,
 )

@@ -2,6 +2,7 @@
 use Rattle.std.specs.Prelude.{◌≡◌, ℕ, ℤ, Bool, List, [], ◌∷◌, map, Option}
 use Rattle.std.proofs.Common.{refl, sym, ap, ◌∙◌}
 use Rattle.rhai_base.specs.declared.dynamic.Dynamic.{Dynamic}
+use Rattle.rhai_base.specs.declared.float_wrapper.FloatWrapper.{FloatWrapper}
 use Rattle.base_tokens.specs.declared.op_assignment.OpAssignment.{OpAssignment}
 use Rattle.base_tokens.specs.declared.position.Position.{Position}
 use Rattle.base_tokens.specs.declared.flags.ASTFlags.{ASTFlags}
@@ -44,6 +45,7 @@ abbrev pub position_in : ExprLayer → Position
 position_in (open_one.DynamicConstant v p) = p
 position_in (open_one.BoolConstant b p) = p
 position_in (open_one.IntegerConstant n p) = p
+position_in (open_one.FloatConstant x p) = p
 position_in (open_one.CharConstant c p) = p
 position_in (open_one.StringConstant t p) = p
 position_in (open_one.InterpolatedString xs p) = p
@@ -73,6 +75,7 @@ abbrev start_step : open_one.Expr-F Position (Unit {0}) Position Position (Unit 
 start_step (open_one.DynamicConstant v p) = p
 start_step (open_one.BoolConstant b p) = p
 start_step (open_one.IntegerConstant n p) = p
+start_step (open_one.FloatConstant x p) = p
 start_step (open_one.CharConstant c p) = p
 start_step (open_one.StringConstant t p) = p
 start_step (open_one.InterpolatedString xs p) = p
@@ -193,6 +196,9 @@ opens-Expr-BoolConstant b p = ap views.out-Expr (sym (expr_kind.rolls-BoolConsta
 pub opens-Expr-IntegerConstant : (n : ℤ) (p : Position) → views.out-Expr (expr_kind.IntegerConstant n p) ≡ open_one.IntegerConstant n p
 opens-Expr-IntegerConstant n p = ap views.out-Expr (sym (expr_kind.rolls-IntegerConstant n p)) ∙ views.out-roll-Expr (open_one.IntegerConstant n p)
 
+pub opens-Expr-FloatConstant : (x : FloatWrapper) (p : Position) → views.out-Expr (expr_kind.FloatConstant x p) ≡ open_one.FloatConstant x p
+opens-Expr-FloatConstant x p = ap views.out-Expr (sym (expr_kind.rolls-FloatConstant x p)) ∙ views.out-roll-Expr (open_one.FloatConstant x p)
+
 pub opens-Expr-CharConstant : (c : ℕ) (p : Position) → views.out-Expr (expr_kind.CharConstant c p) ≡ open_one.CharConstant c p
 opens-Expr-CharConstant c p = ap views.out-Expr (sym (expr_kind.rolls-CharConstant c p)) ∙ views.out-roll-Expr (open_one.CharConstant c p)
 
@@ -308,6 +314,9 @@ start_of-BoolConstant b p = ap start_of (sym (expr_kind.rolls-BoolConstant b p))
 pub start_of-IntegerConstant : (n : ℤ) (p : Position) → start_of (expr_kind.IntegerConstant n p) ≡ p
 start_of-IntegerConstant n p = ap start_of (sym (expr_kind.rolls-IntegerConstant n p)) ∙ start_of-roll (open_one.IntegerConstant n p)
 
+pub start_of-FloatConstant : (x : FloatWrapper) (p : Position) → start_of (expr_kind.FloatConstant x p) ≡ p
+start_of-FloatConstant x p = ap start_of (sym (expr_kind.rolls-FloatConstant x p)) ∙ start_of-roll (open_one.FloatConstant x p)
+
 pub start_of-CharConstant : (c : ℕ) (p : Position) → start_of (expr_kind.CharConstant c p) ≡ p
 start_of-CharConstant c p = ap start_of (sym (expr_kind.rolls-CharConstant c p)) ∙ start_of-roll (open_one.CharConstant c p)
 
@@ -368,6 +377,7 @@ pub ruleset places = (
   opens-Expr-DynamicConstant,
   opens-Expr-BoolConstant,
   opens-Expr-IntegerConstant,
+  opens-Expr-FloatConstant,
   opens-Expr-CharConstant,
   opens-Expr-StringConstant,
   opens-Expr-InterpolatedString,
@@ -405,6 +415,7 @@ pub ruleset places = (
   start_of-DynamicConstant,
   start_of-BoolConstant,
   start_of-IntegerConstant,
+  start_of-FloatConstant,
   start_of-CharConstant,
   start_of-StringConstant,
   start_of-InterpolatedString,

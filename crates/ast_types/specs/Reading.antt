@@ -5,6 +5,7 @@ use Rattle.std.specs.Option.{option_map}
 use Rattle.std.specs.Range.{range_inclusive_start, range_inclusive_end, range_inclusive_exhausted}
 use Rattle.std.proofs.Common.{sym, ap, ◌∙◌}
 use Rattle.rhai_base.specs.declared.dynamic.Dynamic.{Dynamic}
+use Rattle.rhai_base.specs.declared.float_wrapper.FloatWrapper.{FloatWrapper}
 use Rattle.base_tokens.specs.declared.position.Position.{Position}
 use Rattle.base_tokens.specs.declared.op_assignment.OpAssignment.{OpAssignment}
 use Rattle.base_tokens.specs.declared.token.Token.{Token}
@@ -34,7 +35,7 @@ use Rattle.rhai_base.specs.declared.cases.CaseBlocksList.{CaseBlocksList}
 use Rattle.ast_types.specs.declared.switch.SwitchBlock.{SwitchBlock}
 use Rattle.ast_types.specs.declared.switch.SwitchCasesCollection.{SwitchCasesCollection}
 use Rattle.ast_types.specs.declared.script_fn.ScriptFuncDef.{ScriptFuncDef}
-use Rattle.theory_meaning.specs.Tree.{CallToken, NoToken, OfOperator, OfOther, Callee, ChainFlags, PropertyNames, ExclusiveInt, InclusiveInt, SwitchCase, SwitchRange, SwitchTable, Expr, DynamicConstant, BoolConstant, IntegerConstant, CharConstant, StringConstant, UnitConstant, InterpolatedString, ArrayOf, MapOf, Variable, ThisPtr, Property, MethodCall, BlockExpr, FnCall, Dot, Index, And, Or, Coalesce, Exprs, Pairs, no_pairs, pair, MaybeExpr, no_expr, an_expr, Arms, no_arms, arm, Stmt, Noop, If, Switch, While, Do, For, Var, Assignment, FnCallStmt, Block, TryCatch, ExprStmt, BreakLoop, Return, Import, Export, Share, Stmts, Function, exprs, stmts}
+use Rattle.theory_meaning.specs.Tree.{CallToken, NoToken, OfOperator, OfOther, Callee, ChainFlags, PropertyNames, ExclusiveInt, InclusiveInt, SwitchCase, SwitchRange, SwitchTable, Expr, DynamicConstant, BoolConstant, IntegerConstant, FloatConstant, CharConstant, StringConstant, UnitConstant, InterpolatedString, ArrayOf, MapOf, Variable, ThisPtr, Property, MethodCall, BlockExpr, FnCall, Dot, Index, And, Or, Coalesce, Exprs, Pairs, no_pairs, pair, MaybeExpr, no_expr, an_expr, Arms, no_arms, arm, Stmt, Noop, If, Switch, While, Do, For, Var, Assignment, FnCallStmt, Block, TryCatch, ExprStmt, BreakLoop, Return, Import, Export, Share, Stmts, Function, exprs, stmts}
 
 -- ---- flags, tokens, names
 
@@ -158,6 +159,7 @@ abbrev expr_step : ExprLayer → Expr
 expr_step (open_one.DynamicConstant v p) = DynamicConstant (value_of v)
 expr_step (open_one.BoolConstant b p) = BoolConstant b
 expr_step (open_one.IntegerConstant n p) = IntegerConstant n
+expr_step (open_one.FloatConstant x p) = FloatConstant x.bits
 expr_step (open_one.CharConstant c p) = CharConstant c
 expr_step (open_one.StringConstant t p) = StringConstant t
 expr_step (open_one.InterpolatedString xs p) = InterpolatedString (exprs xs)
@@ -302,6 +304,9 @@ expr_of-BoolConstant b p = ap expr_of (sym (expr_kind.rolls-BoolConstant b p)) �
 pub expr_of-IntegerConstant : (n : ℤ) (p : Position) → expr_of (expr_kind.IntegerConstant n p) ≡ IntegerConstant n
 expr_of-IntegerConstant n p = ap expr_of (sym (expr_kind.rolls-IntegerConstant n p)) ∙ expr_rolled (open_one.IntegerConstant n p)
 
+pub expr_of-FloatConstant : (x : FloatWrapper) (p : Position) → expr_of (expr_kind.FloatConstant x p) ≡ FloatConstant x.bits
+expr_of-FloatConstant x p = ap expr_of (sym (expr_kind.rolls-FloatConstant x p)) ∙ expr_rolled (open_one.FloatConstant x p)
+
 pub expr_of-CharConstant : (c : ℕ) (p : Position) → expr_of (expr_kind.CharConstant c p) ≡ CharConstant c
 expr_of-CharConstant c p = ap expr_of (sym (expr_kind.rolls-CharConstant c p)) ∙ expr_rolled (open_one.CharConstant c p)
 
@@ -412,6 +417,7 @@ pub ruleset shapes = (
   expr_of-DynamicConstant,
   expr_of-BoolConstant,
   expr_of-IntegerConstant,
+  expr_of-FloatConstant,
   expr_of-CharConstant,
   expr_of-StringConstant,
   expr_of-InterpolatedString,

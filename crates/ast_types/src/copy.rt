@@ -105,6 +105,7 @@ fn copy_expr(expr: &Expr) -> Result<Expr, AllocError>
         }
         Expr::BoolConstant(b, pos) => Ok(Expr::BoolConstant(*b, *pos)),
         Expr::IntegerConstant(n, pos) => Ok(Expr::IntegerConstant(*n, *pos)),
+        Expr::FloatConstant(x, pos) => Ok(Expr::FloatConstant(*x, *pos)),
         Expr::CharConstant(c, pos) => Ok(Expr::CharConstant(*c, *pos)),
         Expr::StringConstant(text, pos) => Ok(Expr::StringConstant(text.clone()?, *pos)),
         Expr::InterpolatedString(parts, pos) => {

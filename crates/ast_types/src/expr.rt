@@ -6,8 +6,8 @@ ghost use Rattle.ast_types.specs.declared.expr.Expr.TheVariants.{Unit};
 
 use crate::StmtBlock;
 use rhai_base::{
-    ASTFlags, Boxed, Dynamic, INT, Ident, ImmutableString, Namespace, Position, Seq, StringMap,
-    Token,
+    ASTFlags, Boxed, Dynamic, FloatWrapper, INT, Ident, ImmutableString, Namespace, Position, Seq,
+    StringMap, Token,
 };
 use std::num::{NonZeroU8, NonZeroUsize};
 
@@ -21,6 +21,8 @@ pub enum Expr {
     BoolConstant(bool, Position),
     /// An integer.
     IntegerConstant(INT, Position),
+    /// A float.
+    FloatConstant(FloatWrapper, Position),
     /// A character.
     CharConstant(char, Position),
     /// A text.

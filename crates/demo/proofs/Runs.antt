@@ -21,7 +21,7 @@ use Rattle.demo.specs.Words.{reported}
 
 -- a host answers as it does
 agrees : (h : Host) (r : Report) → AgreeOn h h r.calls
-agrees h r = record { answers = λ past c b. refl; modules = λ x. refl; paths = λ p. refl }
+agrees h r = record { answers = λ past c b. refl; modules = λ x. refl; paths = λ p. refl; texts = λ v. refl }
 
 -- a run of the evaluator, from a scope and under a record that hold nothing
 pub run_reported : (engine : Engine) (scope : List ScopeEntry) (after : Script) (turns : ℕ) (report : Report)

@@ -2,7 +2,7 @@
 use Rattle.std.proofs.Common.{◌≡◌, false, ◌==◌, List, [], ◌∷◌, ◌++◌, codes, length, refl, ap, append_assoc, ◌∙◌}
 use Rattle.ast_types.specs.declared.stmt.Stmt as declared
 use Rattle.rhai_base.specs.Value.{Text}
-use Rattle.theory_meaning.specs.Tree.{DynamicConstant, BoolConstant, IntegerConstant, CharConstant, StringConstant, UnitConstant, InterpolatedString, ArrayOf, MapOf, Variable, ThisPtr, Property, MethodCall, BlockExpr, FnCall, Dot, Index, And, Or, Coalesce, Expr, Stmts, While}
+use Rattle.theory_meaning.specs.Tree.{DynamicConstant, BoolConstant, IntegerConstant, FloatConstant, CharConstant, StringConstant, UnitConstant, InterpolatedString, ArrayOf, MapOf, Variable, ThisPtr, Property, MethodCall, BlockExpr, FnCall, Dot, Index, And, Or, Coalesce, Expr, Stmts, While}
 use Rattle.ast_types.specs.Reading.{stmts_of}
 use Rattle.notation_print.specs.Nodes.{block_text, guard_text, stmt_text, stmts_text}
 
@@ -10,6 +10,7 @@ pub guarded : (e : Expr) (ss : Stmts) → stmt_text (While e ss) ≡ guard_text 
 guarded (DynamicConstant v) ss = refl
 guarded (BoolConstant b) ss = refl
 guarded (IntegerConstant n) ss = refl
+guarded (FloatConstant x) ss = refl
 guarded (CharConstant c) ss = refl
 guarded (StringConstant t) ss = refl
 guarded UnitConstant ss = refl

@@ -1,11 +1,11 @@
 -- How nodes are printed. Two trees may print alike.
 use Rattle.std.specs.Prelude.{ℕ, Bool, List, [], ◌∷◌, ◌++◌, Option, Some, None, codes, if◌then◌else◌}
 use Rattle.std.specs.Fmt.{decimal, signed_decimal}
-use Rattle.rhai_base.specs.Value.{Text, UnitV, BoolV, IntV, CharV, TextV, written}
+use Rattle.rhai_base.specs.Value.{Text, UnitV, BoolV, IntV, FloatV, CharV, TextV, written}
 use Rattle.rhai_base.specs.Operators.{Operator, symbol}
 use Rattle.theory_meaning.specs.Desugar.{qualified}
 use Rattle.theory_meaning.specs.Queries.{is_unit}
-use Rattle.theory_meaning.specs.Tree.{Callee, ChainFlags, IntRange, ExclusiveInt, InclusiveInt, SwitchCase, SwitchRange, SwitchTable, Expr, DynamicConstant, BoolConstant, IntegerConstant, CharConstant, StringConstant, UnitConstant, InterpolatedString, ArrayOf, MapOf, Variable, ThisPtr, Property, MethodCall, BlockExpr, FnCall, Dot, Index, And, Or, Coalesce, Exprs, no_exprs, expr, Pairs, no_pairs, pair, MaybeExpr, no_expr, an_expr, Arms, no_arms, arm, Stmt, Noop, If, Switch, While, Do, For, Var, Assignment, FnCallStmt, Block, TryCatch, ExprStmt, BreakLoop, Return, Import, Export, Share, Stmts, no_stmts, stmt}
+use Rattle.theory_meaning.specs.Tree.{Callee, ChainFlags, IntRange, ExclusiveInt, InclusiveInt, SwitchCase, SwitchRange, SwitchTable, Expr, DynamicConstant, BoolConstant, IntegerConstant, FloatConstant, CharConstant, StringConstant, UnitConstant, InterpolatedString, ArrayOf, MapOf, Variable, ThisPtr, Property, MethodCall, BlockExpr, FnCall, Dot, Index, And, Or, Coalesce, Exprs, no_exprs, expr, Pairs, no_pairs, pair, MaybeExpr, no_expr, an_expr, Arms, no_arms, arm, Stmt, Noop, If, Switch, While, Do, For, Var, Assignment, FnCallStmt, Block, TryCatch, ExprStmt, BreakLoop, Return, Import, Export, Share, Stmts, no_stmts, stmt}
 
 -- texts with commas between them; the first has that text before it
 abbrev pub names_text : Text → List Text → Text
@@ -71,6 +71,7 @@ abbrev mutual
   expr_text (DynamicConstant v) = codes "<" ++ written v ++ codes ">"
   expr_text (BoolConstant b) = written (BoolV b)
   expr_text (IntegerConstant n) = written (IntV n)
+  expr_text (FloatConstant x) = written (FloatV x)
   expr_text (CharConstant c) = written (CharV c)
   expr_text (StringConstant t) = written (TextV t)
   expr_text UnitConstant = written UnitV

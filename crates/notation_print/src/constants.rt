@@ -2,10 +2,10 @@
 #![tactic(auto, unfolding(rhai_base::specs::Value::form))]
 
 ghost use Rattle.std.specs.Prelude.{◌≡◌, ◌++◌, OnOk, codes, string_bytes};
-ghost use Rattle.rhai_base.specs.Value.{BoolV, CharV, IntV, TextV, UnitV, written};
+ghost use Rattle.rhai_base.specs.Value.{BoolV, CharV, FloatV, IntV, TextV, UnitV, written};
 ghost use Rattle.rhai_base.specs.Reading.{value_of};
 
-use rhai_base::{Dynamic, INT, OutOfMemory};
+use rhai_base::{Dynamic, FloatWrapper, INT, OutOfMemory};
 
 /// Appends a value that no other constant stands for.
 #[tactic(auto)]
@@ -32,6 +32,13 @@ pub(crate) fn push_bool(value: bool, text: &mut String) -> Result<(), OutOfMemor
 
 pub(crate) fn push_integer(value: INT, text: &mut String) -> Result<(), OutOfMemory>
     ensures { OnOk result (string_bytes text.new ≡ string_bytes text.old ++ written (IntV value)) }
+{
+    write!(text, "{value}")?;
+    Ok(())
+}
+
+pub(crate) fn push_float(value: FloatWrapper, text: &mut String) -> Result<(), OutOfMemory>
+    ensures { OnOk result (string_bytes text.new ≡ string_bytes text.old ++ written (FloatV value.bits)) }
 {
     write!(text, "{value}")?;
     Ok(())

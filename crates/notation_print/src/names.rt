@@ -114,6 +114,7 @@ pub(crate) fn push_catch(name: &Expr, text: &mut String) -> Result<(), OutOfMemo
         Expr::DynamicConstant(_, _)
         | Expr::BoolConstant(_, _)
         | Expr::IntegerConstant(_, _)
+        | Expr::FloatConstant(_, _)
         | Expr::CharConstant(_, _)
         | Expr::StringConstant(_, _)
         | Expr::InterpolatedString(_, _)

@@ -7,7 +7,9 @@ ghost use Rattle.ast_types.specs.Reading.{arms_of, breaks, callee_of, cases_of, 
 ghost use Rattle.theory_meaning.specs.Tree.{Assignment, Block, BreakLoop, Do, Export, FnCallStmt, For, If, Import, Return, Share, Switch, TryCatch, Var, While};
 ghost use Rattle.notation_print.specs.Nodes.{after_word, arms_text, block_text, call_text, expr_text, exprs_text, flags_text, guard_text, pairs_text, stmt_text, stmts_text};
 
-use crate::constants::{push_bool, push_char, push_integer, push_quoted, push_unit, push_value};
+use crate::constants::{
+    push_bool, push_char, push_float, push_integer, push_quoted, push_unit, push_value,
+};
 use crate::names::{
     push_assigning, push_callee, push_catch, push_declaration, push_flags, push_loop_names,
     push_qualified, push_shared, push_word,
@@ -29,6 +31,7 @@ pub fn push_expr(expr: &Expr, text: &mut String) -> Result<(), OutOfMemory>
         Expr::DynamicConstant(value, _) => push_value(value.get(), text),
         Expr::BoolConstant(value, _) => push_bool(*value, text),
         Expr::IntegerConstant(value, _) => push_integer(*value, text),
+        Expr::FloatConstant(value, _) => push_float(*value, text),
         Expr::CharConstant(value, _) => push_char(*value, text),
         Expr::StringConstant(value, _) => push_quoted(value.as_str(), text),
         Expr::InterpolatedString(parts, _) => push_list("text(", parts.get().as_slice(), ")", text),

@@ -206,7 +206,7 @@ impl<'a, M: Marks> Letters<'a, M> {
     }
 
     /// The first letters, so many, and goes past them.
-    fn first(&self, count: usize) -> Option<&'a str> {
+    pub(crate) fn first(&self, count: usize) -> Option<&'a str> {
         let (letters, place) = self.place().split(count)?;
         let letters = str::from_utf8(letters).ok()?;
         self.come_back(place);

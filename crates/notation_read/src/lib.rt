@@ -4,6 +4,7 @@
 #![tactic(auto)]
 
 mod error;
+mod floats;
 mod forms;
 mod functions;
 mod joined;

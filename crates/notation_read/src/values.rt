@@ -35,9 +35,10 @@ impl<'a, M: Marks> Letters<'a, M> {
         if self.skip("Fn(") {
             return self.pointer(depth);
         }
-        match self.integer() {
-            Some(start) => Some(self.from(start)),
-            None => self.scalar(),
+        let scalar = self.scalar()?;
+        match scalar.as_int() {
+            Ok(start) => Some(self.from(start)),
+            Err(_) => Some(scalar),
         }
     }
 
@@ -175,6 +176,9 @@ impl<'a, M: Marks> Letters<'a, M> {
         }
         if self.skip("\"") {
             return self.text().map(Dynamic::Str);
+        }
+        if let Some(float) = self.float() {
+            return Some(Dynamic::Float(float));
         }
         if self.skip("'") {
             return self

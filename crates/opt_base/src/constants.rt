@@ -19,6 +19,7 @@ pub(crate) fn may_be_constant(expr: &Expr) -> bool
         Expr::DynamicConstant(_, _)
         | Expr::BoolConstant(_, _)
         | Expr::IntegerConstant(_, _)
+        | Expr::FloatConstant(_, _)
         | Expr::CharConstant(_, _)
         | Expr::StringConstant(_, _)
         | Expr::Unit(_)
@@ -57,6 +58,7 @@ fn truth(value: &Dynamic) -> Option<bool>
         Dynamic::Bool(b) => Some(*b),
         Dynamic::Unit
         | Dynamic::Int(_)
+        | Dynamic::Float(_)
         | Dynamic::Char(_)
         | Dynamic::Str(_)
         | Dynamic::Array(_)

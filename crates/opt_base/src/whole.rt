@@ -7,6 +7,7 @@ ghost use Rattle.std.specs.Prelude.{◌≡◌};
 ghost use Rattle.ast_types.specs.Reading.{expr_of, exprs_of, pairs_of};
 ghost use Rattle.opt_base.specs.Whole as whole;
 
+use ast_nodes::are_floatless;
 use rhai_ast::Expr;
 use rhai_base::Ident;
 
@@ -18,6 +19,7 @@ fn is_whole(expr: &Expr) -> bool
         Expr::DynamicConstant(_, _)
         | Expr::BoolConstant(_, _)
         | Expr::IntegerConstant(_, _)
+        | Expr::FloatConstant(_, _)
         | Expr::CharConstant(_, _)
         | Expr::StringConstant(_, _)
         | Expr::Unit(_) => true,
@@ -60,14 +62,16 @@ fn are_whole_members(members: &[(Ident, Expr)]) -> bool
     true
 }
 
-/// Whether it is a constant, its parts being reduced.
+/// Whether it is a constant, its parts being reduced; a text with a float is none.
 pub fn has_whole_parts(expr: &Expr) -> bool
     ensures { result ≡ whole.has_whole_parts (expr_of expr.now) }
 {
     match expr {
-        Expr::InterpolatedString(parts, _) | Expr::Array(parts, _) => {
-            are_whole(parts.get().as_slice())
+        Expr::InterpolatedString(parts, _) => {
+            let parts = parts.get().as_slice();
+            are_floatless(parts) && are_whole(parts)
         }
+        Expr::Array(items, _) => are_whole(items.get().as_slice()),
         Expr::Map(map, _) => are_whole_members(map.get().0.as_slice()),
         _ => is_whole(expr),
     }

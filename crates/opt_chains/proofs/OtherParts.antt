@@ -1,5 +1,5 @@
 -- Values and nodes by their kinds: which of them answer nothing.
-use Rattle.std.proofs.Common.{◌≡◌, Bool, true, false, not, List, [], ◌∷◌, Option, Some, None, is_some, ◌↔◌, IsTrue, refl}
+use Rattle.std.proofs.Common.{◌≡◌, Bool, true, false, not, List, [], ◌∷◌, Option, Some, None, is_some, ◌↔◌, IsTrue, refl, sym, ap}
 use Rattle.std.specs.Prelude.{ℤ}
 use Rattle.rhai_base.specs.declared.dynamic.Dynamic.{Dynamic}
 use Rattle.rhai_base.specs.Reading.{DynamicCase, int_case, str_case, array_case, map_case}
@@ -10,10 +10,11 @@ use Rattle.rhai_base.specs.Builtin.{operator_of}
 use Rattle.ast_types.specs.declared.expr.Expr as declared_expr
 use Rattle.ast_types.specs.Reading.{exprs_of, pairs_of, mark_by, mark_of}
 use Rattle.ast_types.proofs.Cases.{ExprCase, integer_constant_case, dynamic_constant_case, interpolated_string_case, array_case as array_expr, map_case as map_expr, property_case, method_call_case}
-use Rattle.theory_meaning.specs.Constants.{constant_value, constant_values, constant_entries, array_value, map_value, joined_value}
+use Rattle.theory_meaning.specs.Constants.{constant_value, constant_values, constant_entries, array_value, map_value, joined_value, text_constants}
 use Rattle.theory_meaning.specs.Engine.{Engine}
 use Rattle.theory_meaning.specs.Tree.{Expr, UnitConstant, Pairs}
-use Rattle.theory_rewriting.specs.Answering.{property_of}
+use Rattle.theory_meaning.specs.Elements.{element}
+use Rattle.theory_rewriting.specs.Answering.{property_of, index_of}
 use Rattle.theory_rewriting.specs.Indexing.{indexed}
 use Rattle.theory_rewriting.specs.Known.{Known}
 use Rattle.ast_types.proofs.OtherKinds.{NoArray, NoMap, NoMethod, NoProperty, NoInteger, NoDynamic}
@@ -23,6 +24,11 @@ use Rattle.opt_chains.specs.declared.parts.literals.Found.{Found}
 use Rattle.rhai_base.proofs.OtherKinds.{NoInt, NoStr, NoItems, NoMembers}
 
 -- ---- values
+
+-- an array at the integer that an index is
+pub at_integer : (vs : Values) (o : Option Value) (n : ℤ) → Some n ≡ integer_of o → index_of (Some (ArrayV vs)) o ≡ element vs n
+at_integer vs (Some (IntV m)) n h = let same : n ≡ m = cc in ap (element vs) (sym same)
+at_integer vs _ n h = absurd cc
 
 pub no_property : {v : Dynamic} {w : Value} → DynamicCase v w → NoMembers v → (x : Text) → None ≡ property_of (Some w) x
 no_property (map_case es) h x = absurd (h es refl)
@@ -114,7 +120,7 @@ map_no_integer (Some vs) = refl
 pub no_integer_constant : {x : declared_expr.Expr} {e : Expr} → ExprCase x e → NoInteger x → NoDynamic x → None ≡ integer_of (constant_value e)
 no_integer_constant (integer_constant_case n p) i d = absurd (i n p refl)
 no_integer_constant (dynamic_constant_case v p) i d = absurd (d v p refl)
-no_integer_constant (interpolated_string_case xs p) i d = text_no_integer (constant_values (exprs_of xs))
+no_integer_constant (interpolated_string_case xs p) i d = text_no_integer (text_constants (exprs_of xs))
 no_integer_constant (array_expr xs p) i d = array_no_integer (constant_values (exprs_of xs))
 no_integer_constant (map_expr y p) i d = map_no_integer (constant_entries (pairs_of y.0))
 no_integer_constant _ i d = refl

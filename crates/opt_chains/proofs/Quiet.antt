@@ -3,7 +3,7 @@ use Rattle.std.proofs.Common.{◌≡◌, ℕ, zero, suc, Bool, true, false, not,
 use Rattle.std.specs.Prelude.{ℤ, ◌&&◌, ◌⊎◌, if◌then◌else◌}
 use Rattle.std.proofs.Common.{inl, inr}
 use Rattle.rhai_base.specs.Value.{Text, Value, UnitV, IntV, TextV, values, same_text, is_unit}
-use Rattle.theory_meaning.specs.Constants.{constant_value, constant_values, constant_entries, array_value, map_value, joined_value, value_and, entry_and, is_constant}
+use Rattle.theory_meaning.specs.Constants.{constant_value, constant_values, constant_entries, array_value, map_value, joined_value, value_and, entry_and, is_constant, text_constants, where_floatless, are_floatless}
 use Rattle.theory_meaning.specs.Elements.{count, value_at, at_index, index_in, element, entry, fields_of}
 use Rattle.theory_meaning.specs.Engine.{Engine, or_else}
 use Rattle.theory_meaning.specs.Queries.{is_pure_expr, are_pure_exprs, are_pure_pairs}
@@ -44,13 +44,18 @@ some_text : (o : Option (List Value)) → is_some (joined_value o) ≡ true → 
 some_text None h = h
 some_text (Some vs) h = refl
 
+some_parts : (b : Bool) (o : Option (List Value)) → is_some (where_floatless b o) ≡ true → is_some o ≡ true
+some_parts true o h = h
+some_parts false None h = h
+some_parts false (Some vs) h = refl
+
 some_map : (o : Option (List (Text × Value))) → is_some (map_value o) ≡ true → is_some o ≡ true
 some_map None h = h
 some_map (Some vs) h = refl
 
 mutual
   constant_pure : (e : Expr) → is_constant e ≡ true → is_pure_expr e ≡ true
-  constant_pure (InterpolatedString es) h = constants_pure es (some_text (constant_values es) h)
+  constant_pure (InterpolatedString es) h = constants_pure es (some_parts (are_floatless es) (constant_values es) (some_text (text_constants es) h))
   constant_pure (ArrayOf es) h = constants_pure es (some_array (constant_values es) h)
   constant_pure (MapOf ps template) h = entries_pure ps (some_map (constant_entries ps) h)
   constant_pure (BlockExpr ss) h = no h

@@ -4,10 +4,10 @@ use Rattle.std.specs.Prelude.{ℤ, pos, negsuc, codes}
 use Rattle.std.specs.Char.{encode_utf8}
 use Rattle.std.specs.Fmt.{signed_decimal, digits, digits_onto, digit_glyph}
 use Rattle.std.proofs.lemmas.List.{length-append}
-use Rattle.rhai_base.specs.Value.{Text, Value, UnitV, BoolV, IntV, CharV, TextV, ArrayV, MapV, PointerV, RangeV, RangeInclusiveV, text_of, form}
-use Rattle.theory_meaning.specs.Constants.{constant_value, constant_values, constant_entries, array_value, map_value, joined_value}
+use Rattle.rhai_base.specs.Value.{Text, Value, UnitV, BoolV, IntV, FloatV, CharV, TextV, ArrayV, MapV, PointerV, RangeV, RangeInclusiveV, holds_float, text_of, form}
+use Rattle.theory_meaning.specs.Constants.{constant_value, constant_values, text_constants, constant_entries, array_value, map_value, joined_value}
 use Rattle.theory_meaning.specs.Control.{texts_joined}
-use Rattle.theory_meaning.specs.Tree.{Expr, DynamicConstant, BoolConstant, IntegerConstant, CharConstant, StringConstant, UnitConstant, InterpolatedString, ArrayOf, MapOf, Exprs, no_exprs, expr}
+use Rattle.theory_meaning.specs.Tree.{Expr, DynamicConstant, BoolConstant, IntegerConstant, FloatConstant, CharConstant, StringConstant, UnitConstant, InterpolatedString, ArrayOf, MapOf, Exprs, no_exprs, expr}
 use Rattle.theory_rewriting.specs.Context.{Context}
 use Rattle.theory_rewriting.specs.Normal.{IsNormal}
 use Rattle.theory_rewriting.specs.Operands.{TextTo, in_other_parts, texts_join, empty_goes}
@@ -15,7 +15,7 @@ use Rattle.theory_rewriting.specs.Rewriting.{ExprTo, same_expr, by_expr_rule, Ex
 use Rattle.theory_rewriting.specs.Rules as rule
 use Rattle.opt_exprs.specs.Parts.{is_empty_value, is_empty_part, first_joins, any_changes}
 
--- ---- the text of a value other than unit and the empty text
+-- ---- the text of a value other than unit and the empty text, and of one without a float
 
 either_some : (b : Bool) (x : ℕ) (xs ys : List ℕ) → 0 < length ys → 0 < length (if b then x ∷ xs else ys)
 either_some true x xs ys h = omega arith
@@ -43,51 +43,53 @@ some_text t h e = absurd (omega (arith, ap length e))
 range_some : (a b : ℤ) (dots : Text) → 0 < length ((signed_decimal a ++ dots) ++ signed_decimal b)
 range_some a b dots = omega (arith, length-append (signed_decimal a ++ dots) (signed_decimal b), length-append (signed_decimal a) dots, number_some a)
 
-value_empty : (v : Value) → text_of v ≡ [] → is_empty_value v ≡ true
+value_empty : (v : Value) → holds_float v ≡ false → text_of v ≡ [] → is_empty_value v ≡ true
 unfolding text_of form
-value_empty UnitV h = refl
-value_empty (TextV []) h = refl
-value_empty (TextV (c ∷ cs)) h = absurd cc
-value_empty (BoolV true) h = absurd cc
-value_empty (BoolV false) h = absurd cc
-value_empty (IntV n) h = absurd (some_text _ (number_some n) h)
-value_empty (CharV c) h = absurd (some_text _ (char_some c) h)
-value_empty (ArrayV vs) h = absurd cc
-value_empty (MapV fs) h = absurd cc
-value_empty (PointerV f vs) h = absurd cc
-value_empty (RangeV a b) h = absurd (some_text _ (range_some a b (codes "..")) h)
-value_empty (RangeInclusiveV a b) h = absurd (some_text _ (range_some a b (codes "..=")) h)
+value_empty UnitV f h = refl
+value_empty (TextV []) f h = refl
+value_empty (TextV (c ∷ cs)) f h = absurd cc
+value_empty (BoolV true) f h = absurd cc
+value_empty (BoolV false) f h = absurd cc
+value_empty (IntV n) f h = absurd (some_text _ (number_some n) h)
+value_empty (FloatV x) f h = absurd cc
+value_empty (CharV c) f h = absurd (some_text _ (char_some c) h)
+value_empty (ArrayV vs) f h = absurd cc
+value_empty (MapV fs) f h = absurd cc
+value_empty (PointerV g vs) f h = absurd cc
+value_empty (RangeV a b) f h = absurd (some_text _ (range_some a b (codes "..")) h)
+value_empty (RangeInclusiveV a b) f h = absurd (some_text _ (range_some a b (codes "..=")) h)
 
 -- ---- a part in normal form is no literal text of constants
 
-not_empty : (v : Value) → is_empty_value v ≡ false → (o : Option Value) (w : Value) → o ≡ Some v → o ≡ Some w → text_of w ≡ [] → ⊥
-not_empty v n o w h i e = let same : v ≡ w = cc in let m : is_empty_value v ≡ true = ap is_empty_value same ∙ value_empty w e in absurd cc
+not_empty : (v : Value) → is_empty_value v ≡ false → (o : Option Value) (w : Value) → o ≡ Some v → o ≡ Some w → holds_float w ≡ false → text_of w ≡ [] → ⊥
+not_empty v n o w h i f e = let same : v ≡ w = cc in let m : is_empty_value v ≡ true = ap is_empty_value same ∙ value_empty w f e in absurd cc
 
-array_not_empty : (o : Option (List Value)) (w : Value) → array_value o ≡ Some w → text_of w ≡ [] → ⊥
-array_not_empty None w h e = absurd cc
-array_not_empty (Some vs) w h e = not_empty _ refl _ w refl h e
+array_not_empty : (o : Option (List Value)) (w : Value) → array_value o ≡ Some w → holds_float w ≡ false → text_of w ≡ [] → ⊥
+array_not_empty None w h f e = absurd cc
+array_not_empty (Some vs) w h f e = not_empty _ refl _ w refl h f e
 
-map_not_empty : (o : Option (List (Text × Value))) (w : Value) → map_value o ≡ Some w → text_of w ≡ [] → ⊥
-map_not_empty None w h e = absurd cc
-map_not_empty (Some vs) w h e = not_empty _ refl _ w refl h e
+map_not_empty : (o : Option (List (Text × Value))) (w : Value) → map_value o ≡ Some w → holds_float w ≡ false → text_of w ≡ [] → ⊥
+map_not_empty None w h f e = absurd cc
+map_not_empty (Some vs) w h f e = not_empty _ refl _ w refl h f e
 
-constant_text : {k : Context} {es : Exprs} (v : Value) → IsNormal (ExprTo k) (InterpolatedString es) → joined_value (constant_values es) ≡ Some v → ⊥
-constant_text {es = es} v n h = by (constant_values es) refl h where
-  by : (o : Option (List Value)) → constant_values es ≡ o → joined_value o ≡ Some v → ⊥
+constant_text : {k : Context} {es : Exprs} (v : Value) → IsNormal (ExprTo k) (InterpolatedString es) → joined_value (text_constants es) ≡ Some v → ⊥
+constant_text {es = es} v n h = by (text_constants es) refl h where
+  by : (o : Option (List Value)) → text_constants es ≡ o → joined_value o ≡ Some v → ⊥
   by None q h = absurd cc
-  by (Some vs) q h = let same : StringConstant (texts_joined vs) ≡ InterpolatedString es = n false true _ (by_expr_rule (rule.text_folds vs q)) in absurd cc
+  by (Some vs) q h = let same : StringConstant (texts_joined text_of vs) ≡ InterpolatedString es = n false true _ (by_expr_rule (rule.text_folds vs q)) in absurd cc
 
-part_empty : {k : Context} (e : Expr) (v : Value) → IsNormal (ExprTo k) e → constant_value e ≡ Some v → text_of v ≡ [] → is_empty_part e ≡ true
-part_empty (DynamicConstant w) v n h e = ap is_empty_value (let same : w ≡ v = cc in same) ∙ value_empty v e
-part_empty (StringConstant t) v n h e = ap is_empty_value (let same : TextV t ≡ v = cc in same) ∙ value_empty v e
-part_empty UnitConstant v n h e = refl
-part_empty (BoolConstant b) v n h e = absurd (not_empty (BoolV b) refl _ v refl h e)
-part_empty (IntegerConstant m) v n h e = absurd (not_empty (IntV m) refl _ v refl h e)
-part_empty (CharConstant c) v n h e = absurd (not_empty (CharV c) refl _ v refl h e)
-part_empty (ArrayOf es) v n h e = absurd (array_not_empty (constant_values es) v h e)
-part_empty (MapOf ps template) v n h e = absurd (map_not_empty (constant_entries ps) v h e)
-part_empty (InterpolatedString es) v n h e = absurd (constant_text v n h)
-part_empty _ v n h e = absurd cc
+part_empty : {k : Context} (e : Expr) (v : Value) → IsNormal (ExprTo k) e → constant_value e ≡ Some v → holds_float v ≡ false → text_of v ≡ [] → is_empty_part e ≡ true
+part_empty (DynamicConstant w) v n h f e = ap is_empty_value (let same : w ≡ v = cc in same) ∙ value_empty v f e
+part_empty (StringConstant t) v n h f e = ap is_empty_value (let same : TextV t ≡ v = cc in same) ∙ value_empty v f e
+part_empty UnitConstant v n h f e = refl
+part_empty (BoolConstant b) v n h f e = absurd (not_empty (BoolV b) refl _ v refl h f e)
+part_empty (IntegerConstant m) v n h f e = absurd (not_empty (IntV m) refl _ v refl h f e)
+part_empty (FloatConstant x) v n h f e = absurd (not_empty (FloatV x) refl _ v refl h f e)
+part_empty (CharConstant c) v n h f e = absurd (not_empty (CharV c) refl _ v refl h f e)
+part_empty (ArrayOf es) v n h f e = absurd (array_not_empty (constant_values es) v h f e)
+part_empty (MapOf ps template) v n h f e = absurd (map_not_empty (constant_entries ps) v h f e)
+part_empty (InterpolatedString es) v n h f e = absurd (constant_text v n h)
+part_empty _ v n h f e = absurd cc
 
 -- ---- the parts of a list in normal form
 
@@ -116,7 +118,7 @@ first_changes e es h =
 pub no_part_changes : {k : Context} {es es' : Exprs} → IsNormal (ExprsTo k) es → any_changes es ≡ false → TextTo es es' → ⊥
 no_part_changes n h (in_other_parts {e = e} {es = es} p) = no_part_changes (rest_normal n) (first_changes e es h).2 p
 no_part_changes n h (texts_join {t = t} {u = u} {es = es}) = let joins : true ≡ false = (first_changes (StringConstant t) (expr (StringConstant u) es) h).1 in absurd cc
-no_part_changes n h (empty_goes {e = e} {es = es} v q i) =
-    let empty : is_empty_part e ≡ true = part_empty e v (first_normal n) q i in
+no_part_changes n h (empty_goes {e = e} {es = es} v q f i) =
+    let empty : is_empty_part e ≡ true = part_empty e v (first_normal n) q f i in
     let stays : is_empty_part e ≡ false = (first_changes e es h).0 in
     absurd cc

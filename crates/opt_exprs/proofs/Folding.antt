@@ -1,7 +1,7 @@
 -- Literals of constants that fold to their value.
 use Rattle.std.proofs.Common.{◌≡◌, Bool, true, false, List, Option, Some, None, is_some, refl, sym, ap, ◌∙◌, subst}
-use Rattle.rhai_base.specs.Value.{Text, Value, TextV, MapV}
-use Rattle.theory_meaning.specs.Constants.{constant_for, constant_value, constant_values, constant_entries, joined_value, map_value}
+use Rattle.rhai_base.specs.Value.{Text, Value, TextV, MapV, text_of}
+use Rattle.theory_meaning.specs.Constants.{constant_for, constant_value, constant_entries, joined_value, text_constants, map_value}
 use Rattle.theory_meaning.specs.Control.{texts_joined}
 use Rattle.theory_meaning.specs.Elements.{fields_of}
 use Rattle.theory_meaning.specs.Engine.{Engine}
@@ -27,12 +27,12 @@ use Rattle.opt_exprs.proofs.EmptyParts.{no_part_changes}
 -- ---- the rules
 
 text-folds : (e : Expr) (v : Value) → is_interpolated e ≡ true → Some v ≡ constant_value e → (p : Place) → ExprRewrite p e (constant_for v)
-text-folds (InterpolatedString es) v i h p = by (constant_values es) refl h where
-  by : (o : Option (List Value)) → constant_values es ≡ o → Some v ≡ joined_value o → ExprRewrite p (InterpolatedString es) (constant_for v)
+text-folds (InterpolatedString es) v i h p = by (text_constants es) refl h where
+  by : (o : Option (List Value)) → text_constants es ≡ o → Some v ≡ joined_value o → ExprRewrite p (InterpolatedString es) (constant_for v)
   by None q h = absurd cc
   by (Some vs) q h =
-      let same : TextV (texts_joined vs) ≡ v = cc in
-      subst (λ w. ExprRewrite p (InterpolatedString es) (constant_for w)) same (record { rule = λ k. rule.text_folds vs q; stays = may_be_constant p _ (TextV (texts_joined vs)) refl refl refl; keeps = keeps_constant _ (TextV (texts_joined vs)) })
+      let same : TextV (texts_joined text_of vs) ≡ v = cc in
+      subst (λ w. ExprRewrite p (InterpolatedString es) (constant_for w)) same (record { rule = λ k. rule.text_folds vs q; stays = may_be_constant p _ (TextV (texts_joined text_of vs)) refl refl refl; keeps = keeps_constant _ (TextV (texts_joined text_of vs)) })
 text-folds _ v i h p = absurd cc
 
 map-folds : (e : Expr) (v : Value) → is_map e ≡ true → Some v ≡ constant_value e → (p : Place) → ExprRewrite p e (constant_for v)
@@ -74,7 +74,7 @@ kept r p s s' e e' h a u n i j = record { same = j; state = i; answers = a; redu
 
 -- no rule fires at such a text or map
 abbrev Unfolded : Context → Expr → Type 0
-Unfolded k (InterpolatedString es) = IsNormal (ExprsTo k) es × (any_changes es ≡ false) × (joined_value (constant_values es) ≡ None)
+Unfolded k (InterpolatedString es) = IsNormal (ExprsTo k) es × (any_changes es ≡ false) × (joined_value (text_constants es) ≡ None)
 Unfolded k (MapOf ps template) = map_value (constant_entries ps) ≡ None
 Unfolded k _ = ⊥
 
@@ -85,7 +85,7 @@ no_rule (rule.map_of_constants vs q) u = let folds = ap map_value q in absurd cc
 no_rule _ u = u
 
 text-kept : (s s' : Progress) (e e' : Expr) → is_interpolated e ≡ true → ((r : Engine) → ExprParts r e → constant_value e ≡ None) → parts_change e ≡ false → s' ≡ s → e' ≡ e → (r : Engine) (p : Place) → ExprKept r p s s' e e'
-text-kept s s' (InterpolatedString es) e' h c g i j r p = kept r p s s' (InterpolatedString es) e' (λ x. no_joined (constant_values es) (c r x)) refl refl (λ x n e' q m. no_rule q (n, g, c r x)) i j
+text-kept s s' (InterpolatedString es) e' h c g i j r p = kept r p s s' (InterpolatedString es) e' (λ x. no_joined (text_constants es) (c r x)) refl refl (λ x n e' q m. no_rule q (n, g, c r x)) i j
 text-kept s s' _ e' h c g i j r p = absurd cc
 
 map-kept : (s s' : Progress) (e e' : Expr) → is_map e ≡ true → ((r : Engine) → ExprParts r e → constant_value e ≡ None) → s' ≡ s → e' ≡ e → (r : Engine) (p : Place) → ExprKept r p s s' e e'

@@ -2,7 +2,7 @@
 use Rattle.std.proofs.Common.{◌≡◌, false, not, ◌&&◌, List, Option, Some, None, is_some, refl}
 use Rattle.rhai_base.specs.Value.{Text, Value}
 use Rattle.ast_types.specs.declared.expr.Expr as declared_expr
-use Rattle.theory_meaning.specs.Constants.{constant_value, constant_values, constant_entries, array_value, map_value, joined_value}
+use Rattle.theory_meaning.specs.Constants.{constant_value, constant_values, constant_entries, array_value, map_value, joined_value, text_constants}
 use Rattle.theory_meaning.specs.Tree.{Expr}
 use Rattle.ast_types.specs.Reading.{exprs_of, pairs_of}
 use Rattle.ast_types.proofs.Cases.{ExprCase, dynamic_constant_case, interpolated_string_case, array_case, map_case, unit_case, and_case, or_case, coalesce_case}
@@ -25,7 +25,7 @@ map_no_unit (Some vs) = refl
 pub no_constant_unit : {x : declared_expr.Expr} {e : Expr} → ExprCase x e → NoUnit x → NoDynamic x → false ≡ is_unit_value (constant_value e)
 no_constant_unit (dynamic_constant_case v p) u d = absurd (d v p refl)
 no_constant_unit (unit_case p) u d = absurd (u p refl)
-no_constant_unit (interpolated_string_case xs p) u d = text_no_unit (constant_values (exprs_of xs))
+no_constant_unit (interpolated_string_case xs p) u d = text_no_unit (text_constants (exprs_of xs))
 no_constant_unit (array_case xs p) u d = array_no_unit (constant_values (exprs_of xs))
 no_constant_unit (map_case m p) u d = map_no_unit (constant_entries (pairs_of m.0))
 no_constant_unit _ u d = refl

@@ -3,7 +3,7 @@ use Rattle.std.proofs.Common.{◌≡◌, ◌<◌, ◌≤◌, ℕ, ◌+◌, ◌-�
 use Rattle.std.proofs.lemmas.Bool.Decides.{eqb_tells}
 use Rattle.std.proofs.lemmas.List.{append_assoc, append-nil, drop_all, drop-drop, drop-set-lt, take_all, take-set-le, length-set, length-take-le, get_or-set_same, get_or_read, set-get_or}
 use Rattle.ast_types.specs.declared.expr.Expr as declared_expr
-use Rattle.rhai_base.specs.Value.{Text, Value, UnitV, TextV, text_of}
+use Rattle.rhai_base.specs.Value.{Text, Value, UnitV, TextV, text_of, holds_float}
 use Rattle.theory_meaning.specs.Tree.{Expr, DynamicConstant, StringConstant, UnitConstant, InterpolatedString, Exprs, expr}
 use Rattle.ast_types.specs.Reading.{expr_of, exprs_of}
 use Rattle.theory_rewriting.specs.Operands.{TextTo, in_other_parts, texts_join, empty_goes}
@@ -44,6 +44,11 @@ value-empty UnitV h = refl
 value-empty (TextV t) h = empty-is t h
 value-empty _ h = absurd cc
 
+empty-floatless : (v : Value) → is_empty_value v ≡ true → holds_float v ≡ false
+empty-floatless UnitV h = refl
+empty-floatless (TextV t) h = refl
+empty-floatless _ h = absurd cc
+
 text-empty : (t : Text) → is_empty_text t ≡ true → text_of (TextV t) ≡ []
 unfolding text_of
 text-empty t h = empty-is t h
@@ -53,9 +58,9 @@ unfolding text_of
 unit-empty = refl
 
 pub part_goes : (e : Expr) (es : Exprs) → is_empty_part e ≡ true → TextTo (expr e es) es
-part_goes UnitConstant es h = empty_goes UnitV refl unit-empty
-part_goes (StringConstant t) es h = empty_goes (TextV t) refl (text-empty t h)
-part_goes (DynamicConstant v) es h = empty_goes v refl (value-empty v h)
+part_goes UnitConstant es h = empty_goes UnitV refl refl unit-empty
+part_goes (StringConstant t) es h = empty_goes (TextV t) refl refl (text-empty t h)
+part_goes (DynamicConstant v) es h = empty_goes v refl (empty-floatless v h) (value-empty v h)
 part_goes _ es h = absurd cc
 
 -- ---- those that stay move down
@@ -215,7 +220,7 @@ alone_at {xs = xs} {at = at} {end = end} x lt e h g = record {
 keeps_parts : {es es' : Exprs} {E : Expr → Type 0} {F : Exprs → Type 0} → Listed E F → ((t : Text) → E (StringConstant t)) → TextTo es es' → F es → F es'
 keeps_parts l f (in_other_parts p) h = let z = l.split _ _ h in l.join _ _ z.0 (keeps_parts l f p z.1)
 keeps_parts l f texts_join h = l.join _ _ (f _) (l.split _ _ (l.split _ _ h).1).1
-keeps_parts l f (empty_goes v q i) h = (l.split _ _ h).1
+keeps_parts l f (empty_goes v q e i) h = (l.split _ _ h).1
 
 keeps_text : (es es' : Exprs) → TextTo es es' → KeepsExprParts (InterpolatedString es) (InterpolatedString es')
 keeps_text es es' q = record { parts = λ r h. (h.0, (keeps_parts answers (λ t. refl) q h.1.0, keeps_parts (reduced r) (λ t. (tt, (tt, (tt, tt)))) q h.1.1)); clear = λ ks h. tt }

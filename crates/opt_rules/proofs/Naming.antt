@@ -1,7 +1,7 @@
 -- A name that is known as a constant.
 use Rattle.std.proofs.Common.{◌≡◌, Bool, true, false, List, [], ◌∷◌, Option, Some, None, refl, sym, ap, ◌∙◌, subst}
 use Rattle.std.specs.Prelude.{if◌then◌else◌}
-use Rattle.rhai_base.specs.Value.{Text, Value, UnitV, BoolV, IntV, CharV, TextV, PointerV, no_values, is_unit}
+use Rattle.rhai_base.specs.Value.{Text, Value, UnitV, BoolV, IntV, FloatV, CharV, TextV, PointerV, no_values, is_unit}
 use Rattle.base_tokens.specs.Names.{is_valid_name}
 use Rattle.theory_meaning.specs.Act.{OfName}
 use Rattle.theory_meaning.specs.Constants.{constant_for, literal_value, pointer_call}
@@ -29,6 +29,7 @@ known_folds : {k : Context} {x : Text} (v : Value) → look k.known x ≡ Some v
 known_folds UnitV h l = rule.known_name UnitV h
 known_folds (BoolV b) h l = rule.known_name (BoolV b) h
 known_folds (IntV n) h l = rule.known_name (IntV n) h
+known_folds (FloatV x) h l = rule.known_name (FloatV x) h
 known_folds (CharV c) h l = rule.known_name (CharV c) h
 known_folds (TextV t) h l = rule.known_name (TextV t) h
 known_folds (PointerV f no_values) h l = rule.known_pointer f h (valid_of (is_valid_name f) f l)

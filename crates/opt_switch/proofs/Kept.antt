@@ -7,7 +7,7 @@ use Rattle.theory_meaning.specs.Constants.{constant_value}
 use Rattle.theory_meaning.specs.Control.{case_for, ranges_with, or_ranges}
 use Rattle.theory_meaning.specs.Engine.{Engine}
 use Rattle.theory_meaning.specs.Shape.{is_table}
-use Rattle.theory_meaning.specs.Tree.{SwitchTable, Expr, DynamicConstant, BoolConstant, IntegerConstant, CharConstant, StringConstant, UnitConstant, Arms, Stmt, Switch}
+use Rattle.theory_meaning.specs.Tree.{SwitchTable, Expr, DynamicConstant, BoolConstant, IntegerConstant, FloatConstant, CharConstant, StringConstant, UnitConstant, Arms, Stmt, Switch}
 use Rattle.theory_meaning.specs.Walk.{OfStmt}
 use Rattle.theory_rewriting.specs.Choosing.{is_short, own_value, is_short_for, is_short_over, is_chosen}
 use Rattle.theory_rewriting.specs.Residue.{IsReducedNode}
@@ -56,6 +56,7 @@ own_is : (e : Expr) (v : Value) → own_value e ≡ Some v → constant_value e 
 own_is (DynamicConstant u) v h = h
 own_is (BoolConstant b) v h = h
 own_is (IntegerConstant n) v h = h
+own_is (FloatConstant x) v h = h
 own_is (CharConstant c) v h = h
 own_is (StringConstant t) v h = h
 own_is UnitConstant v h = h

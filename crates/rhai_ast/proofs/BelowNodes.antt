@@ -64,6 +64,7 @@ expr_case : (e : declared_expr.Expr) (t : Expr) → ExprCase e t → children (O
 expr_case _ _ (cases.dynamic_constant_case v p) = by (standing.expr_below-DynamicConstant v p) refl
 expr_case _ _ (cases.bool_constant_case b p) = by (standing.expr_below-BoolConstant b p) refl
 expr_case _ _ (cases.integer_constant_case n p) = by (standing.expr_below-IntegerConstant n p) refl
+expr_case _ _ (cases.float_constant_case x p) = by (standing.expr_below-FloatConstant x p) refl
 expr_case _ _ (cases.char_constant_case c p) = by (standing.expr_below-CharConstant c p) refl
 expr_case _ _ (cases.string_constant_case t p) = by (standing.expr_below-StringConstant t p) refl
 expr_case _ _ (cases.interpolated_string_case xs p) = by (standing.expr_below-InterpolatedString xs p) (exprs_meant xs)

@@ -1,6 +1,6 @@
 -- A walk over the parts of a node is a fold over its children.
 use Rattle.std.proofs.Common.{◌≡◌, true, false, ℕ, zero, suc, List, [], ◌∷◌, ◌++◌, map, refl, sym, ap, ◌∙◌}
-use Rattle.theory_meaning.specs.Tree.{Expr, DynamicConstant, BoolConstant, IntegerConstant, CharConstant, StringConstant, UnitConstant, InterpolatedString, ArrayOf, MapOf, Variable, ThisPtr, Property, MethodCall, BlockExpr, FnCall, Dot, Index, And, Or, Coalesce, Exprs, no_exprs, expr, Pairs, no_pairs, pair, MaybeExpr, no_expr, an_expr, Arms, no_arms, arm, Stmt, Noop, If, Switch, While, Do, For, Var, Assignment, FnCallStmt, Block, TryCatch, ExprStmt, BreakLoop, Return, Import, Export, Share, Stmts, no_stmts, stmt, SwitchTable}
+use Rattle.theory_meaning.specs.Tree.{Expr, DynamicConstant, BoolConstant, IntegerConstant, FloatConstant, CharConstant, StringConstant, UnitConstant, InterpolatedString, ArrayOf, MapOf, Variable, ThisPtr, Property, MethodCall, BlockExpr, FnCall, Dot, Index, And, Or, Coalesce, Exprs, no_exprs, expr, Pairs, no_pairs, pair, MaybeExpr, no_expr, an_expr, Arms, no_arms, arm, Stmt, Noop, If, Switch, While, Do, For, Var, Assignment, FnCallStmt, Block, TryCatch, ExprStmt, BreakLoop, Return, Import, Export, Share, Stmts, no_stmts, stmt, SwitchTable}
 use Rattle.theory_meaning.specs.Walk.{Node, OfExpr, OfStmt, Spot, LoopBody, LeftSide, RightSide, Walk, arm_at, arms_at, listed, over_arms, over_expr, over_exprs, over_maybe, over_pairs, over_stmt, over_stmts, parts_of_expr, parts_of_stmt}
 use Rattle.rhai_ast.specs.Children.{Child, anywhere, placed_at, one_step, children, over_child, over_children, over_node, over_parts}
 
@@ -66,6 +66,7 @@ module _ {ℓ} {A : Type ℓ} (w : Walk A) (f : Folds w) where
   of_expr (DynamicConstant v) = refl
   of_expr (BoolConstant b) = refl
   of_expr (IntegerConstant n) = refl
+  of_expr (FloatConstant x) = refl
   of_expr (CharConstant c) = refl
   of_expr (StringConstant t) = refl
   of_expr UnitConstant = refl

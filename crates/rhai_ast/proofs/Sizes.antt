@@ -1,7 +1,7 @@
 -- Each child of a node is smaller than the node.
 use Rattle.std.proofs.Common.{◌≡◌, ◌<◌, ◌≤◌, ◌+◌, ◌*◌, ℕ, zero, suc, List, [], ◌∷◌, ◌++◌, map, max, sym, subst, arith}
 use Rattle.std.proofs.Math.Nat.{le-max_left, le-max_right, max-le}
-use Rattle.theory_meaning.specs.Tree.{Expr, DynamicConstant, BoolConstant, IntegerConstant, CharConstant, StringConstant, UnitConstant, InterpolatedString, ArrayOf, MapOf, Variable, ThisPtr, Property, MethodCall, BlockExpr, FnCall, Dot, Index, And, Or, Coalesce, Exprs, no_exprs, expr, Pairs, no_pairs, pair, MaybeExpr, no_expr, an_expr, Arms, no_arms, arm, Stmt, Noop, If, Switch, While, Do, For, Var, Assignment, FnCallStmt, Block, TryCatch, ExprStmt, BreakLoop, Return, Import, Export, Share, Stmts, no_stmts, stmt}
+use Rattle.theory_meaning.specs.Tree.{Expr, DynamicConstant, BoolConstant, IntegerConstant, FloatConstant, CharConstant, StringConstant, UnitConstant, InterpolatedString, ArrayOf, MapOf, Variable, ThisPtr, Property, MethodCall, BlockExpr, FnCall, Dot, Index, And, Or, Coalesce, Exprs, no_exprs, expr, Pairs, no_pairs, pair, MaybeExpr, no_expr, an_expr, Arms, no_arms, arm, Stmt, Noop, If, Switch, While, Do, For, Var, Assignment, FnCallStmt, Block, TryCatch, ExprStmt, BreakLoop, Return, Import, Export, Share, Stmts, no_stmts, stmt}
 use Rattle.theory_meaning.specs.Walk.{Node, OfExpr, OfStmt, Spot, LoopBody, Walk, arm_at, arms_at, listed, over_arms, over_expr, over_exprs, over_maybe, over_pairs, over_stmts, sum_of, total}
 use Rattle.rhai_ast.specs.Left.{left_of}
 use Rattle.rhai_ast.specs.Nodes.{child_of, node_of}
@@ -63,6 +63,7 @@ of_expr : (e : Expr) → AreBelow (size_of (OfExpr e)) (children (OfExpr e))
 of_expr (DynamicConstant v) = tt
 of_expr (BoolConstant b) = tt
 of_expr (IntegerConstant n) = tt
+of_expr (FloatConstant x) = tt
 of_expr (CharConstant c) = tt
 of_expr (StringConstant t) = tt
 of_expr UnitConstant = tt

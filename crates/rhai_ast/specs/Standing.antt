@@ -9,6 +9,7 @@ use Rattle.base_tokens.specs.declared.flags.ASTFlags.{ASTFlags}
 use Rattle.base_tokens.specs.declared.ident.Ident.{Ident}
 use Rattle.base_tokens.specs.declared.namespace.Namespace.{Namespace}
 use Rattle.rhai_base.specs.declared.dynamic.Dynamic.{Dynamic}
+use Rattle.rhai_base.specs.declared.float_wrapper.FloatWrapper.{FloatWrapper}
 use Rattle.rhai_base.specs.Value.{Text}
 use Rattle.ast_types.specs.declared.block.StmtBlock.{StmtBlock}
 use Rattle.ast_types.specs.declared.expr.BinaryExpr.{BinaryExpr}
@@ -199,6 +200,9 @@ expr_below-BoolConstant b p = ap expr_below (sym (expr_kind.rolls-BoolConstant b
 pub expr_below-IntegerConstant : (n : ℤ) (p : Position) → expr_below (expr_kind.IntegerConstant n p) ≡ []
 expr_below-IntegerConstant n p = ap expr_below (sym (expr_kind.rolls-IntegerConstant n p)) ∙ expr_below-roll (open_one.IntegerConstant n p)
 
+pub expr_below-FloatConstant : (x : FloatWrapper) (p : Position) → expr_below (expr_kind.FloatConstant x p) ≡ []
+expr_below-FloatConstant x p = ap expr_below (sym (expr_kind.rolls-FloatConstant x p)) ∙ expr_below-roll (open_one.FloatConstant x p)
+
 pub expr_below-CharConstant : (c : ℕ) (p : Position) → expr_below (expr_kind.CharConstant c p) ≡ []
 expr_below-CharConstant c p = ap expr_below (sym (expr_kind.rolls-CharConstant c p)) ∙ expr_below-roll (open_one.CharConstant c p)
 
@@ -305,6 +309,7 @@ pub ruleset nodes_below = (
   expr_below-DynamicConstant,
   expr_below-BoolConstant,
   expr_below-IntegerConstant,
+  expr_below-FloatConstant,
   expr_below-CharConstant,
   expr_below-StringConstant,
   expr_below-InterpolatedString,

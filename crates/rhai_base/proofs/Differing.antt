@@ -2,11 +2,12 @@
 use Rattle.std.proofs.Common.{◌≡◌, ℕ, ℤ, List, Bool, false, Option, Some, None, map, refl, sym, ap, ◌∙◌}
 use Rattle.rhai_base.specs.declared.dynamic.Dynamic.{Dynamic}
 use Rattle.rhai_base.specs.declared.dynamic.Dynamic.TheVariants as dynamic
+use Rattle.rhai_base.specs.declared.float_wrapper.FloatWrapper.{FloatWrapper}
 use Rattle.rhai_base.specs.declared.fn_ptr.FnPtr.{FnPtr}
-use Rattle.rhai_base.specs.Value.{Text, Value, Values, UnitV, BoolV, IntV, CharV, TextV, ArrayV, MapV, PointerV, RangeV, RangeInclusiveV, values, Fields, fields}
+use Rattle.rhai_base.specs.Value.{Text, Value, Values, UnitV, BoolV, IntV, FloatV, CharV, TextV, ArrayV, MapV, PointerV, RangeV, RangeInclusiveV, values, Fields, fields}
 use Rattle.rhai_base.specs.Operators.{Operator, Computed, on_ints}
 use Rattle.rhai_base.specs.Builtin.{row, equality_of, unjoined}
-use Rattle.rhai_base.specs.Reading.{value_of, value_of-Unit, value_of-Bool, value_of-Int, value_of-Char, value_of-Str, value_of-Array, value_of-Map, value_of-FnPtr, value_of-Range, value_of-RangeInclusive, members_of, DynamicCase, dynamic_cases, unit_case, bool_case, int_case, char_case, str_case, array_case, map_case, fn_ptr_case, range_case, range_inclusive_case}
+use Rattle.rhai_base.specs.Reading.{value_of, value_of-Unit, value_of-Bool, value_of-Int, value_of-Float, value_of-Char, value_of-Str, value_of-Array, value_of-Map, value_of-FnPtr, value_of-Range, value_of-RangeInclusive, members_of, DynamicCase, dynamic_cases, unit_case, bool_case, int_case, float_case, char_case, str_case, array_case, map_case, fn_ptr_case, range_case, range_inclusive_case}
 use Rattle.rhai_base.proofs.OtherKinds.{NoInt, NoStr, NoItems, NoMembers, NoPointer}
 
 -- a value and one of another kind, by what they stand for
@@ -24,6 +25,10 @@ bool_differs _ h a op = refl
 int_differs : {y : Dynamic} {w : Value} → DynamicCase y w → NoInt y → (a : ℤ) → Differs (IntV a) w
 int_differs (int_case n) h a op = absurd (h n refl)
 int_differs _ h a op = refl
+
+float_differs : {y : Dynamic} {w : Value} → DynamicCase y w → ((x : FloatWrapper) → y ≡ dynamic.Float x → ⊥) → (a : ℕ) → Differs (FloatV a) w
+float_differs (float_case x) h a op = absurd (h x refl)
+float_differs _ h a op = refl
 
 char_differs : {y : Dynamic} {w : Value} → DynamicCase y w → ((c : ℕ) → y ≡ dynamic.Char c → ⊥) → (a : ℕ) → Differs (CharV a) w
 char_differs (char_case c) h a op = absurd (h c refl)
@@ -79,6 +84,9 @@ bool_row op x y b r e h = differing op x y (BoolV b) r (ap value_of e ∙ value_
 
 pub int_row : (op : Option Operator) (x y : Dynamic) (n : ℤ) (r : Computed) → x ≡ dynamic.Int n → NoInt y → Unequal op r → Row op x y r
 int_row op x y n r e h = differing op x y (IntV n) r (ap value_of e ∙ value_of-Int n) (int_differs (dynamic_cases y) h n)
+
+pub float_row : (op : Option Operator) (x y : Dynamic) (a : FloatWrapper) (r : Computed) → x ≡ dynamic.Float a → ((b : FloatWrapper) → y ≡ dynamic.Float b → ⊥) → Unequal op r → Row op x y r
+float_row op x y a r e h = differing op x y (FloatV a.bits) r (ap value_of e ∙ value_of-Float a) (float_differs (dynamic_cases y) h a.bits)
 
 pub char_row : (op : Option Operator) (x y : Dynamic) (c : ℕ) (r : Computed) → x ≡ dynamic.Char c → ((c' : ℕ) → y ≡ dynamic.Char c' → ⊥) → Unequal op r → Row op x y r
 char_row op x y c r e h = differing op x y (CharV c) r (ap value_of e ∙ value_of-Char c) (char_differs (dynamic_cases y) h c)

@@ -11,9 +11,11 @@ use Rattle.rhai_base.specs.declared.dynamic.Dynamic.{Dynamic}
 use Rattle.rhai_base.specs.declared.dynamic.Dynamic.TheOpen as open_one
 use Rattle.rhai_base.specs.declared.dynamic.Dynamic.TheViews as views
 use Rattle.rhai_base.specs.declared.dynamic.Dynamic.TheFolds as folds
+use Rattle.rhai_base.specs.declared.float_wrapper.FloatWrapper.{FloatWrapper}
 use Rattle.rhai_base.specs.declared.fn_ptr.FnPtr.{FnPtr}
 use Rattle.rhai_base.specs.contracts.dynamic.DynamicPartialEq.TheImpl as impl
 use Rattle.rhai_base.specs.contracts.dynamic.DynamicPartialEq.TheImpl.Laws as laws
+use Rattle.rhai_base.specs.contracts.float_wrapper.FloatWrapperPartialEq.TheImpl as float_impl
 use Rattle.rhai_base.specs.contracts.fn_ptr.FnPtrPartialEq.TheImpl as pointer_impl
 use Rattle.rhai_base.specs.contracts.fn_ptr.FnPtrPartialEq.TheImpl.Laws as pointer_laws
 
@@ -98,6 +100,21 @@ pointer_held : (p q : FnPtr) → q ≡ pointer_in p (held (open_one.FnPtr q))
 unfolding pointer_in
 pointer_held p q = sym (ap (pointer_in p) (views.out-roll-Dynamic (open_one.FnPtr q)))
 
+float_in : FloatWrapper → open_one.Dynamic-F Dynamic FnPtr → FloatWrapper
+float_in x (open_one.Float y) = y
+float_in x _ = x
+
+float_held : (x y : FloatWrapper) → y ≡ float_in x (held (open_one.Float y))
+unfolding float_in
+float_held x y = sym (ap (float_in x) (views.out-roll-Dynamic (open_one.Float y)))
+
+abbrev pub floats_equal : FloatWrapper → FloatWrapper → Bool
+floats_equal = float_impl.ghosts.eq
+
+-- floats are compared by their bits
+float_exact : (x y : FloatWrapper) → floats_equal x y ≡ true → x ≡ y
+float_exact x y h = ap (λ n. record { bits = n }) ((unsigned_Decides x.bits y.bits).0 h)
+
 abbrev pub pointers_equal : FnPtr → FnPtr → Bool
 pointers_equal = pointer_impl.ghosts.eq
 
@@ -107,7 +124,7 @@ pointer_parts p q h = sym (pointer_laws.is p q) ∙ h
 
 -- one layer, from what is known of the values in it
 layers : (a : open_one.Dynamic-F Known KnownPointer) (b : open_one.Dynamic-F Dynamic FnPtr) → equal (below a) (views.roll-Dynamic b) ≡ true → below a ≡ views.roll-Dynamic b
-unfolding views.out-Dynamic out views.roll-Dynamic roll below items_in members_in pointer_in
+unfolding views.out-Dynamic out views.roll-Dynamic roll below items_in members_in pointer_in float_in
 layers open_one.Unit open_one.Unit h = refl
 layers (open_one.Bool x) (open_one.Bool y) h =
     let u : beq x y ≡ true = sym (laws.is (below (open_one.Bool x)) (views.roll-Dynamic (open_one.Bool y))) ∙ h in
@@ -115,6 +132,9 @@ layers (open_one.Bool x) (open_one.Bool y) h =
 layers (open_one.Int x) (open_one.Int y) h =
     let u : int_eq x y ≡ true = sym (laws.is (below (open_one.Int x)) (views.roll-Dynamic (open_one.Int y))) ∙ h in
     ap (λ v. views.roll-Dynamic (open_one.Int v)) ((Decides-int_eq x y).0 u)
+layers (open_one.Float x) (open_one.Float y) h =
+    let u : floats_equal (float_in y (held (open_one.Float x))) (float_in y (held (open_one.Float y))) ≡ true = sym (laws.is (below (open_one.Float x)) (views.roll-Dynamic (open_one.Float y))) ∙ h in
+    ap (λ v. views.roll-Dynamic (open_one.Float v)) (float_exact x y ((λ i. floats_equal (float_held y x i) (float_held y y i)) ∙ u))
 layers (open_one.Char x) (open_one.Char y) h =
     let u : nat_eq x y ≡ true = sym (laws.is (below (open_one.Char x)) (views.roll-Dynamic (open_one.Char y))) ∙ h in
     ap (λ v. views.roll-Dynamic (open_one.Char v)) ((unsigned_Decides x y).0 u)

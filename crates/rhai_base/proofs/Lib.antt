@@ -1,5 +1,6 @@
 pub mod Forms
 pub mod Hashable
+pub mod Floats
 pub mod Exact
 pub mod Recovered
 pub mod Same

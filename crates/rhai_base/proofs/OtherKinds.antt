@@ -2,11 +2,15 @@
 use Rattle.std.specs.Prelude.{◌≡◌, ℤ, List}
 use Rattle.rhai_base.specs.declared.dynamic.Dynamic.{Dynamic}
 use Rattle.rhai_base.specs.declared.dynamic.Dynamic.TheVariants as dynamic
+use Rattle.rhai_base.specs.declared.float_wrapper.FloatWrapper.{FloatWrapper}
 use Rattle.rhai_base.specs.declared.fn_ptr.FnPtr.{FnPtr}
 use Rattle.rhai_base.specs.Value.{Text}
 
 abbrev pub NoInt : Dynamic → Type 0
 NoInt v = (n : ℤ) → v ≡ dynamic.Int n → ⊥
+
+abbrev pub NoFloat : Dynamic → Type 0
+NoFloat v = (x : FloatWrapper) → v ≡ dynamic.Float x → ⊥
 
 abbrev pub NoStr : Dynamic → Type 0
 NoStr v = (t : Text) → v ≡ dynamic.Str t → ⊥

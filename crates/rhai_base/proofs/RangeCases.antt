@@ -13,19 +13,20 @@ use Rattle.rhai_base.specs.declared.range_case.RangeCase.TheVariants.{ExclusiveI
 use Rattle.rhai_base.specs.declared.dynamic.Dynamic.{Dynamic}
 use Rattle.rhai_base.specs.declared.range_case.RangeCaseIter.{RangeCaseIter}
 use Rattle.rhai_base.specs.Ranges.{left, holds_value, numbers, AreNumbersOf}
-use Rattle.rhai_base.specs.Reading.{value_of, DynamicCase, int_case, dynamic_cases}
+use Rattle.rhai_base.specs.Reading.{value_of, DynamicCase, int_case, float_case, dynamic_cases}
 use Rattle.rhai_base.specs.Upward.{upward}
 use Rattle.rhai_base.proofs.Upward.{some_upward, gap_above, checked_is, length_is, len_closed, rising, within, contained, taken_open, one_taken}
 use Rattle.rhai_base.specs.Value.{Value}
-use Rattle.rhai_base.proofs.OtherKinds.{NoInt}
+use Rattle.rhai_base.proofs.OtherKinds.{NoInt, NoFloat}
 
--- a value that is no integer is in no range
-not_integer_by : (c : RangeCase) {y : Dynamic} {w : Value} → DynamicCase y w → NoInt y → false ≡ holds_value c w
-not_integer_by c (int_case n) h = absurd (h n refl)
-not_integer_by c _ h = refl
+-- a value that is no integer and no float is in no range
+not_integer_by : (c : RangeCase) {y : Dynamic} {w : Value} → DynamicCase y w → NoInt y → NoFloat y → false ≡ holds_value c w
+not_integer_by c (int_case n) h f = absurd (h n refl)
+not_integer_by c (float_case x) h f = absurd (f x refl)
+not_integer_by c _ h f = refl
 
-pub not_integer : (c : RangeCase) (y : Dynamic) → NoInt y → false ≡ holds_value c (value_of y)
-not_integer c y h = not_integer_by c (dynamic_cases y) h
+pub not_integer : (c : RangeCase) (y : Dynamic) → NoInt y → NoFloat y → false ≡ holds_value c (value_of y)
+not_integer c y h f = not_integer_by c (dynamic_cases y) h f
 
 -- ---- lengths
 

@@ -1,6 +1,6 @@
 -- Ranges in the operators' table.
 use Rattle.std.proofs.Common.{◌≡◌, Bool, true, false, refl}
-use Rattle.rhai_base.specs.Value.{Value, UnitV, BoolV, IntV, CharV, TextV, ArrayV, MapV, PointerV, RangeV, RangeInclusiveV}
+use Rattle.rhai_base.specs.Value.{Value, UnitV, BoolV, IntV, FloatV, CharV, TextV, ArrayV, MapV, PointerV, RangeV, RangeInclusiveV}
 use Rattle.rhai_base.specs.Operators.{binary, on_chars}
 use Rattle.rhai_base.specs.Builtin.{range_operator, range_between}
 
@@ -10,6 +10,7 @@ unfolding binary on_chars
 range_row true UnitV UnitV = refl
 range_row true (BoolV b) UnitV = refl
 range_row true (IntV n) UnitV = refl
+range_row true (FloatV x) UnitV = refl
 range_row true (CharV c) UnitV = refl
 range_row true (TextV t) UnitV = refl
 range_row true (ArrayV vs) UnitV = refl
@@ -21,6 +22,7 @@ range_row true v w = refl
 range_row false UnitV UnitV = refl
 range_row false (BoolV b) UnitV = refl
 range_row false (IntV n) UnitV = refl
+range_row false (FloatV x) UnitV = refl
 range_row false (CharV c) UnitV = refl
 range_row false (TextV t) UnitV = refl
 range_row false (ArrayV vs) UnitV = refl

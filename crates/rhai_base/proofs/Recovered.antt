@@ -6,8 +6,8 @@ use Rattle.rhai_base.specs.declared.dynamic.Dynamic.TheViews as views
 use Rattle.rhai_base.specs.declared.dynamic.Dynamic.TheFolds as folds
 use Rattle.rhai_base.specs.declared.dynamic.Dynamic.TheVariants as dynamic
 use Rattle.rhai_base.specs.declared.fn_ptr.FnPtr.{FnPtr}
-use Rattle.rhai_base.specs.Value.{Text, Value, UnitV, BoolV, IntV, CharV, TextV, ArrayV, MapV, PointerV, RangeV, RangeInclusiveV, Values, no_values, item, Fields, no_fields, field, values, fields}
-use Rattle.rhai_base.specs.Reading.{value_of, members_of, value_of-Unit, value_of-Bool, value_of-Int, value_of-Char, value_of-Str, value_of-Array, value_of-Map, value_of-FnPtr, value_of-Range, value_of-RangeInclusive}
+use Rattle.rhai_base.specs.Value.{Text, Value, UnitV, BoolV, IntV, FloatV, CharV, TextV, ArrayV, MapV, PointerV, RangeV, RangeInclusiveV, Values, no_values, item, Fields, no_fields, field, values, fields}
+use Rattle.rhai_base.specs.Reading.{value_of, members_of, value_of-Unit, value_of-Bool, value_of-Int, value_of-Float, value_of-Char, value_of-Str, value_of-Array, value_of-Map, value_of-FnPtr, value_of-Range, value_of-RangeInclusive}
 
 -- the declared value that stands for one
 abbrev mutual
@@ -15,6 +15,7 @@ abbrev mutual
   declared UnitV = dynamic.Unit
   declared (BoolV b) = dynamic.Bool b
   declared (IntV n) = dynamic.Int n
+  declared (FloatV x) = dynamic.Float (record { bits = x })
   declared (CharV c) = dynamic.Char c
   declared (TextV t) = dynamic.Str t
   declared (ArrayV vs) = dynamic.Array (declared_items vs)
@@ -64,6 +65,7 @@ unfolding below
 layer open_one.Unit = recovered _ _ dynamic.rolls-Unit (ap declared value_of-Unit)
 layer (open_one.Bool b) = recovered _ _ (dynamic.rolls-Bool b) (ap declared (value_of-Bool b))
 layer (open_one.Int n) = recovered _ _ (dynamic.rolls-Int n) (ap declared (value_of-Int n))
+layer (open_one.Float x) = recovered _ _ (dynamic.rolls-Float x) (ap declared (value_of-Float x))
 layer (open_one.Char c) = recovered _ _ (dynamic.rolls-Char c) (ap declared (value_of-Char c))
 layer (open_one.Str t) = recovered _ _ (dynamic.rolls-Str t) (ap declared (value_of-Str t))
 layer (open_one.Array es) =

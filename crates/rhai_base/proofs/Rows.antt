@@ -10,11 +10,11 @@ use Rattle.std.proofs.lemmas.Cmp.{nat_list_cmp_total}
 use Rattle.std.proofs.lemmas.Map.Text.{is_eq-slice_cmp}
 use Rattle.base_tokens.specs.declared.token.Token.{Token}
 use Rattle.base_tokens.specs.declared.token.Token.TheVariants as token
-use Rattle.rhai_base.specs.Value.{Text, Value, UnitV, BoolV, IntV, CharV, TextV, same_text, type_name}
+use Rattle.rhai_base.specs.Value.{Text, Value, UnitV, BoolV, IntV, FloatV, CharV, TextV, same_text, type_name}
 use Rattle.rhai_base.specs.Operators as table
 use Rattle.rhai_base.specs.Operators.{Operator, NoEntry, is_bool, binary, on_texts, on_chars, text_lt, is_range}
 use Rattle.base_tokens.specs.Tokens.{makes_range}
-use Rattle.rhai_base.specs.Builtin.{operator_of, plain_operator, row, binary_at, equality_of, compared, unjoined, is_text, joins}
+use Rattle.rhai_base.specs.Builtin.{operator_of, plain_operator, row, binary_at, equality_of, compared, unjoined, is_float, is_text, joins}
 
 -- ---- texts and characters in order
 
@@ -122,18 +122,20 @@ open_start _ n h = refl
 abbrev Unjoined : Operator → Value → Value → Type 0
 Unjoined op v w = is_text v ≡ true → is_text w ≡ true → op ≢ table.Plus
 
-unjoined_is : (op : Operator) (v w : Value) → is_range op ≡ false → Unjoined op v w → unjoined op v w ≡ binary op v w
+unjoined_is : (op : Operator) (v w : Value) → is_float v ≡ false → is_float w ≡ false → is_range op ≡ false → Unjoined op v w → unjoined op v w ≡ binary op v w
 unfolding binary
-unjoined_is op (IntV a) (IntV b) r h = refl
-unjoined_is op (BoolV a) (BoolV b) r h = refl
-unjoined_is op (TextV a) (TextV b) r h = sym (texts_compared op a b (h refl refl))
-unjoined_is op (CharV a) (CharV b) r h = sym (chars_compared op a b (h refl refl))
-unjoined_is op (TextV a) (CharV b) r h = sym (joined op (a ++ encode_utf8 b) (h refl refl))
-unjoined_is op (CharV a) (TextV b) r h = sym (joined op (encode_utf8 a ++ b) (h refl refl))
-unjoined_is op UnitV UnitV r h = sym (units op)
-unjoined_is op (IntV a) UnitV r h = sym (open_end op a r)
-unjoined_is op UnitV (IntV b) r h = sym (open_start op b r)
-unjoined_is op v w r h = ap (λ d. if same_text (type_name v) (type_name w) then NoEntry else d) (sym (different op))
+unjoined_is op (IntV a) (IntV b) f g r h = refl
+unjoined_is op (BoolV a) (BoolV b) f g r h = refl
+unjoined_is op (TextV a) (TextV b) f g r h = sym (texts_compared op a b (h refl refl))
+unjoined_is op (CharV a) (CharV b) f g r h = sym (chars_compared op a b (h refl refl))
+unjoined_is op (TextV a) (CharV b) f g r h = sym (joined op (a ++ encode_utf8 b) (h refl refl))
+unjoined_is op (CharV a) (TextV b) f g r h = sym (joined op (encode_utf8 a ++ b) (h refl refl))
+unjoined_is op UnitV UnitV f g r h = sym (units op)
+unjoined_is op (IntV a) UnitV f g r h = sym (open_end op a r)
+unjoined_is op UnitV (IntV b) f g r h = sym (open_start op b r)
+unjoined_is op (FloatV x) w f g r h = absurd cc
+unjoined_is op v (FloatV y) f g r h = absurd cc
+unjoined_is op v w f g r h = ap (λ d. if same_text (type_name v) (type_name w) then NoEntry else d) (sym (different op))
 
 apart : (a b : Bool) → (a && b) ≡ false → a ≡ true → b ≡ true → ⊥
 apart a b e p q = grind arith
@@ -155,9 +157,9 @@ other_is_no_range _ h = refl
 other_is_no_plus : (op : Operator) → is_other op ≡ true → op ≢ table.Plus
 other_is_no_plus op h e = let f : false ≡ true = ap is_other (sym e) ∙ h in absurd (cc)
 
-row_is : (o : Option Operator) (v w : Value) → is_other_or_none o ≡ true → row (λ op. unjoined op v w) o ≡ row (λ op. binary op v w) o
-row_is None v w h = refl
-row_is (Some op) v w h = unjoined_is op v w (other_is_no_range op h) (λ p q. other_is_no_plus op h)
+row_is : (o : Option Operator) (v w : Value) → is_float v ≡ false → is_float w ≡ false → is_other_or_none o ≡ true → row (λ op. unjoined op v w) o ≡ row (λ op. binary op v w) o
+row_is None v w f g h = refl
+row_is (Some op) v w f g h = unjoined_is op v w f g (other_is_no_range op h) (λ p q. other_is_no_plus op h)
 
 -- a token that makes no range
 pub no_range : (op : Token) → (op ≡ token.ExclusiveRange → ⊥) → (op ≡ token.InclusiveRange → ⊥) → makes_range op ≡ false
@@ -166,8 +168,8 @@ no_range token.InclusiveRange f g = absurd (g refl)
 no_range _ f g = refl
 
 -- the rows of a token for values that it neither joins nor makes a range of
-pub unjoined_row : (op : Token) (v w : Value) → joins op v w ≡ false → makes_range op ≡ false → row (λ o. unjoined o v w) (plain_operator op) ≡ binary_at op v w
-unjoined_row token.Plus v w h r = unjoined_is table.Plus v w refl (λ p q e. apart (is_text v) (is_text w) h p q)
-unjoined_row token.ExclusiveRange v w h r = absurd (cc)
-unjoined_row token.InclusiveRange v w h r = absurd (cc)
-unjoined_row t v w h r = row_is (operator_of t) v w refl
+pub unjoined_row : (op : Token) (v w : Value) → is_float v ≡ false → is_float w ≡ false → joins op v w ≡ false → makes_range op ≡ false → row (λ o. unjoined o v w) (plain_operator op) ≡ binary_at op v w
+unjoined_row token.Plus v w f g h r = unjoined_is table.Plus v w f g refl (λ p q e. apart (is_text v) (is_text w) h p q)
+unjoined_row token.ExclusiveRange v w f g h r = absurd (cc)
+unjoined_row token.InclusiveRange v w f g h r = absurd (cc)
+unjoined_row t v w f g h r = row_is (operator_of t) v w f g refl

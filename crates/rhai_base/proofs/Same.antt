@@ -3,7 +3,7 @@ use Rattle.std.proofs.Common.{◌≡◌, ℤ, pos, negsuc, Bool, true, false, �
 use Rattle.std.specs.Cmp.{unsigned_Decides}
 use Rattle.std.proofs.lemmas.Bool.{and_parts}
 use Rattle.std.proofs.lemmas.Slice.Eq.{bytes_eq-Decides}
-use Rattle.rhai_base.specs.Value.{Text, Value, UnitV, BoolV, IntV, CharV, TextV, ArrayV, MapV, PointerV, RangeV, RangeInclusiveV, Values, no_values, item, Fields, no_fields, field, same, same_items, same_fields, same_int, same_bool, same_text}
+use Rattle.rhai_base.specs.Value.{Text, Value, UnitV, BoolV, IntV, FloatV, CharV, TextV, ArrayV, MapV, PointerV, RangeV, RangeInclusiveV, Values, no_values, item, Fields, no_fields, field, same, same_items, same_fields, same_int, same_bool, same_text}
 
 both : (a b : Bool) → a ≡ true → b ≡ true → (a && b) ≡ true
 both a b h k = ap (λ c. c && b) h ∙ k
@@ -29,6 +29,7 @@ mutual
   same_exact UnitV UnitV h = refl
   same_exact (BoolV a) (BoolV b) h = ap BoolV (bool_exact a b h)
   same_exact (IntV a) (IntV b) h = ap IntV (int_exact a b h)
+  same_exact (FloatV a) (FloatV b) h = ap FloatV ((unsigned_Decides a b).0 h)
   same_exact (CharV a) (CharV b) h = ap CharV ((unsigned_Decides a b).0 h)
   same_exact (TextV a) (TextV b) h = ap TextV (text_exact a b h)
   same_exact (ArrayV a) (ArrayV b) h = ap ArrayV (items_exact a b h)
@@ -69,6 +70,7 @@ mutual
   same_itself UnitV = refl
   same_itself (BoolV a) = bool_same a
   same_itself (IntV a) = int_same a
+  same_itself (FloatV a) = (unsigned_Decides a a).1 refl
   same_itself (CharV a) = (unsigned_Decides a a).1 refl
   same_itself (TextV a) = ast_same a
   same_itself (ArrayV a) = items_same a

@@ -1,5 +1,5 @@
 -- The built-in operators' table, at the token of an operator and at what the functions answer.
-use Rattle.std.specs.Prelude.{Option, Some, None, Result, Ok, Err, ℤ, pos, Bool, true, false, not, if◌then◌else◌, ◌&&◌}
+use Rattle.std.specs.Prelude.{Option, Some, None, Result, Ok, Err, ℤ, pos, Bool, true, false, not, if◌then◌else◌, ◌&&◌, ◌||◌}
 use Rattle.std.specs.declared.cmp.Ordering.{Ordering}
 use Rattle.std.specs.Ordering.{nat_cmp, is_eq, is_lt, is_le, is_gt, is_ge}
 use Rattle.std.specs.Cmp.Lexicographic.{slice_cmp}
@@ -8,7 +8,7 @@ use Rattle.base_tokens.specs.declared.token.Token.{Token}
 use Rattle.base_tokens.specs.declared.token.Token.TheVariants as token
 use Rattle.base_tokens.specs.declared.error.Fault.{Fault}
 use Rattle.base_tokens.specs.declared.error.Fault.TheVariants.{Arithmetic}
-use Rattle.rhai_base.specs.Value.{Value, UnitV, BoolV, IntV, CharV, TextV, RangeV, RangeInclusiveV, is_unit, same_text, type_name}
+use Rattle.rhai_base.specs.Value.{Value, UnitV, BoolV, IntV, FloatV, CharV, TextV, RangeV, RangeInclusiveV, is_unit, same_text, type_name}
 use Rattle.rhai_base.specs.Operators.{Operator, Plus, Minus, Multiply, Divide, Modulo, Power, ShiftLeft, ShiftRight, BitAnd, BitOr, BitXor, EqualTo, NotEqualTo, Less, LessOrEqual, Greater, GreaterOrEqual, UpTo, Through, Not, Negative, Positive, greatest, Computed, NoEntry, Is, Overflows, is_bool, on_ints, on_bools, binary, unary}
 use Rattle.rhai_base.specs.Reading.{value_of}
 
@@ -85,6 +85,13 @@ is_text (TextV t) = true
 is_text (CharV c) = true
 is_text _ = false
 
+abbrev pub is_float : Value → Bool
+is_float (FloatV x) = true
+is_float _ = false
+
+abbrev pub has_float : Value → Value → Bool
+has_float v w = is_float v || is_float w
+
 -- the operator joins these values as texts
 abbrev pub joins : Token → Value → Value → Bool
 joins token.Plus v w = is_text v && is_text w
@@ -96,7 +103,7 @@ plain_operator token.ExclusiveRange = None
 plain_operator token.InclusiveRange = None
 plain_operator t = operator_of t
 
--- all entries but the ranges and those that join texts and characters
+-- all entries but the ranges and those that join texts and characters, for values that are no floats
 abbrev pub unjoined : Operator → Value → Value → Computed
 unjoined op (IntV a) (IntV b) = on_ints op a b
 unjoined op (BoolV a) (BoolV b) = on_bools op a b

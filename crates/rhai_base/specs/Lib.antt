@@ -1,3 +1,4 @@
+pub mod Floats
 pub mod Value
 pub mod Reading
 pub mod Operators

@@ -1,7 +1,7 @@
 -- The operators and what the built-in ones answer.
 use Rattle.std.specs.Prelude.{ℕ, zero, suc, ◌-◌, ◌^◌, Bool, true, false, not, ◌&&◌, ◌||◌, List, [], ◌∷◌, ◌++◌, ℤ, pos, negsuc, ◌+ℤ◌, ◌-ℤ◌, ◌*ℤ◌, codes, ◌==◌, nat_lt, nat_le, int_lt, int_le, int_div, int_rem, bit_and, bit_or, bit_xor, if◌then◌else◌}
 use Rattle.std.specs.Char.{encode_utf8}
-use Rattle.rhai_base.specs.Value.{Text, Value, UnitV, BoolV, IntV, CharV, TextV, RangeV, RangeInclusiveV, same_text, same_int, same_bool, type_name}
+use Rattle.rhai_base.specs.Value.{Text, Value, UnitV, BoolV, IntV, FloatV, CharV, TextV, RangeV, RangeInclusiveV, same_text, same_int, same_bool, type_name}
 
 pub data Operator : Type 0 where
   Plus : Operator
@@ -193,6 +193,9 @@ binary op (CharV a) (TextV b) = on_joined op (encode_utf8 a ++ b)
 binary op UnitV UnitV = on_units op
 binary op (IntV a) UnitV = on_from op a
 binary op UnitV (IntV b) = on_to op b
+-- nothing is computed with a float, nor compared
+binary op (FloatV x) w = NoEntry
+binary op v (FloatV y) = NoEntry
 binary op v w = if same_text (type_name v) (type_name w) then NoEntry else on_different op
 
 abbrev pub unary : Operator → Value → Computed

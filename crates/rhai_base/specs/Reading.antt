@@ -6,8 +6,9 @@ use Rattle.rhai_base.specs.declared.dynamic.Dynamic.TheOpen as open_one
 use Rattle.rhai_base.specs.declared.dynamic.Dynamic.TheViews as views
 use Rattle.rhai_base.specs.declared.dynamic.Dynamic.TheFolds as folds
 use Rattle.rhai_base.specs.declared.dynamic.Dynamic.TheVariants as dynamic
+use Rattle.rhai_base.specs.declared.float_wrapper.FloatWrapper.{FloatWrapper}
 use Rattle.rhai_base.specs.declared.fn_ptr.FnPtr.{FnPtr}
-use Rattle.rhai_base.specs.Value.{Text, Value, UnitV, BoolV, IntV, CharV, TextV, ArrayV, MapV, PointerV, RangeV, RangeInclusiveV, Values, values, fields}
+use Rattle.rhai_base.specs.Value.{Text, Value, UnitV, BoolV, IntV, FloatV, CharV, TextV, ArrayV, MapV, PointerV, RangeV, RangeInclusiveV, Values, values, fields}
 
 -- a pointer: its name, and the values of the first parameters
 pub record PointerParts : Type 0 where
@@ -18,6 +19,7 @@ abbrev value_step : open_one.Dynamic-F Value PointerParts → Value
 value_step open_one.Unit = UnitV
 value_step (open_one.Bool b) = BoolV b
 value_step (open_one.Int n) = IntV n
+value_step (open_one.Float x) = FloatV x.bits
 value_step (open_one.Char c) = CharV c
 value_step (open_one.Str t) = TextV t
 value_step (open_one.Array vs) = ArrayV (values vs)
@@ -52,6 +54,10 @@ pub value_of-Int : (n : ℤ) → value_of (dynamic.Int n) ≡ IntV n
 unfolding value_of
 value_of-Int n = ap value_of (sym (dynamic.rolls-Int n)) ∙ folds.fold-roll-Dynamic Value PointerParts value_step pointer_step (open_one.Int n)
 
+pub value_of-Float : (x : FloatWrapper) → value_of (dynamic.Float x) ≡ FloatV x.bits
+unfolding value_of
+value_of-Float x = ap value_of (sym (dynamic.rolls-Float x)) ∙ folds.fold-roll-Dynamic Value PointerParts value_step pointer_step (open_one.Float x)
+
 pub value_of-Char : (c : ℕ) → value_of (dynamic.Char c) ≡ CharV c
 unfolding value_of
 value_of-Char c = ap value_of (sym (dynamic.rolls-Char c)) ∙ folds.fold-roll-Dynamic Value PointerParts value_step pointer_step (open_one.Char c)
@@ -85,6 +91,7 @@ pub data DynamicCase : Dynamic → Value → Type 0 where
   unit_case : DynamicCase dynamic.Unit UnitV
   bool_case : (b : Bool) → DynamicCase (dynamic.Bool b) (BoolV b)
   int_case : (n : ℤ) → DynamicCase (dynamic.Int n) (IntV n)
+  float_case : (x : FloatWrapper) → DynamicCase (dynamic.Float x) (FloatV x.bits)
   char_case : (c : ℕ) → DynamicCase (dynamic.Char c) (CharV c)
   str_case : (t : Text) → DynamicCase (dynamic.Str t) (TextV t)
   array_case : (vs : List Dynamic) → DynamicCase (dynamic.Array vs) (ArrayV (values (map value_of vs)))
@@ -100,6 +107,7 @@ rolled : (x : open_one.Dynamic-F Dynamic FnPtr) → DynamicCase (views.roll-Dyna
 rolled open_one.Unit = case_as dynamic.rolls-Unit value_of-Unit unit_case
 rolled (open_one.Bool b) = case_as (dynamic.rolls-Bool b) (value_of-Bool b) (bool_case b)
 rolled (open_one.Int n) = case_as (dynamic.rolls-Int n) (value_of-Int n) (int_case n)
+rolled (open_one.Float x) = case_as (dynamic.rolls-Float x) (value_of-Float x) (float_case x)
 rolled (open_one.Char c) = case_as (dynamic.rolls-Char c) (value_of-Char c) (char_case c)
 rolled (open_one.Str t) = case_as (dynamic.rolls-Str t) (value_of-Str t) (str_case t)
 rolled (open_one.Array vs) = case_as (dynamic.rolls-Array vs) (value_of-Array vs) (array_case vs)
@@ -116,6 +124,7 @@ pub ruleset kinds = (
   value_of-Unit,
   value_of-Bool,
   value_of-Int,
+  value_of-Float,
   value_of-Char,
   value_of-Str,
   value_of-Array,

@@ -5,7 +5,7 @@ ghost use Rattle.std.specs.Prelude.{◌≡◌, ◌++◌, IfOk};
 ghost use Rattle.rhai_base.specs.Value as model;
 ghost use Rattle.rhai_base.specs.Reading.{value_of};
 ghost use Rattle.rhai_base.specs.Operators as table;
-ghost use Rattle.rhai_base.specs.Builtin.{computed_of, answered, row, binary_at, unary_at, compared, equality_of, number_or_fault, plain_operator, unjoined, is_text, joins};
+ghost use Rattle.rhai_base.specs.Builtin.{computed_of, answered, row, binary_at, unary_at, compared, equality_of, number_or_fault, plain_operator, unjoined, has_float, is_float, is_text, joins};
 
 use crate::dynamic::{Dynamic, INT};
 use crate::range_operators::range_of;
@@ -24,6 +24,9 @@ pub fn builtin_binary_op(
 ) -> Result<Option<Result<Dynamic, Fault>>, OutOfMemory>
     ensures { IfOk result (λ r. computed_of r ≡ binary_at op.now (value_of x.now) (value_of y.now)) }
 {
+    if has_float(x, y) {
+        return Ok(None);
+    }
     if joins(op, x, y) {
         let text = join(alloc, x, y)?;
         return Ok(Some(Ok(Dynamic::Str(text))));
@@ -52,6 +55,7 @@ fn negation(x: &Dynamic) -> Option<Dynamic>
         Dynamic::Bool(b) => Some(Dynamic::Bool(!*b)),
         Dynamic::Unit => None,
         Dynamic::Int(_) => None,
+        Dynamic::Float(_) => None,
         Dynamic::Char(_) => None,
         Dynamic::Str(_) => None,
         Dynamic::Array(_) => None,
@@ -80,7 +84,7 @@ fn room(value: &Dynamic) -> usize {
     }
 }
 
-/// All entries but the ranges and those that join texts and characters.
+/// All entries but the ranges and those that join texts and characters, for values that are no floats.
 fn unjoined(op: &Token, x: &Dynamic, y: &Dynamic) -> Option<Result<Dynamic, Fault>>
     ensures { computed_of result ≡ row (λ o. unjoined o (value_of x.now) (value_of y.now)) (plain_operator op.now) }
 {
@@ -90,6 +94,7 @@ fn unjoined(op: &Token, x: &Dynamic, y: &Dynamic) -> Option<Result<Dynamic, Faul
         (Dynamic::Str(x), Dynamic::Str(y)) => comparison(op, x.cmp(y)),
         (Dynamic::Char(x), Dynamic::Char(y)) => comparison(op, x.cmp(y)),
         (Dynamic::Unit, Dynamic::Unit) => equality(op, true),
+        (Dynamic::Float(_), Dynamic::Float(_)) => None,
         (Dynamic::Array(_), Dynamic::Array(_)) => None,
         (Dynamic::Map(_), Dynamic::Map(_)) => None,
         (Dynamic::FnPtr(_), Dynamic::FnPtr(_)) => None,
@@ -174,6 +179,20 @@ fn joins(op: &Token, x: &Dynamic, y: &Dynamic) -> bool
         Token::Plus => is_text(x) && is_text(y),
         _ => false,
     }
+}
+
+/// Is one of them a float?
+fn has_float(x: &Dynamic, y: &Dynamic) -> bool
+    ensures { result ≡ has_float (value_of x.now) (value_of y.now) }
+{
+    is_float(x) || is_float(y)
+}
+
+/// Is this a float?
+fn is_float(value: &Dynamic) -> bool
+    ensures { result ≡ is_float (value_of value.now) }
+{
+    matches!(value, Dynamic::Float(_))
 }
 
 /// Is this a text or a character?

@@ -2,6 +2,7 @@
 #![tactic(auto, using(crate::specs::Reading::kinds), unfolding(crate::specs::Value::text_of))]
 
 mod copy;
+mod floats;
 mod hashable;
 mod kinds;
 mod text;
@@ -9,7 +10,7 @@ mod text;
 ghost use Rattle.std.specs.Prelude.{◌≡◌, ◌≢◌, ◌++◌, ◌↔◌, IsTrue, IfOk, MatchResult, OnOk, OnErr, List};
 ghost use Rattle.rhai_base.specs.declared.dynamic.Dynamic.TheVariants as kind;
 
-use crate::FnPtr;
+use crate::{FloatWrapper, FnPtr};
 use base_lists::Seq;
 use base_text::{ImmutableString, StringMap};
 use base_tokens::OutOfMemory;
@@ -28,6 +29,8 @@ pub enum Dynamic {
     Bool(bool),
     /// an integer of 64 bits with sign
     Int(INT),
+    /// a float of 64 bits
+    Float(FloatWrapper),
     /// a character
     Char(char),
     /// a text
@@ -51,7 +54,8 @@ impl Drop for Dynamic {
     #[inline(always)]
     fn drop(self) {
         match self {
-            Dynamic::Unit | Dynamic::Bool(_) | Dynamic::Int(_) | Dynamic::Char(_) => {}
+            Dynamic::Unit | Dynamic::Bool(_) | Dynamic::Int(_) => {}
+            Dynamic::Float(_) | Dynamic::Char(_) => {}
             Dynamic::Str(_text) => {}
             Dynamic::Array(_items) => {}
             Dynamic::Map(_members) => {}
@@ -92,6 +96,7 @@ impl Dynamic {
             Dynamic::Unit => "()",
             Dynamic::Bool(_) => "bool",
             Dynamic::Int(_) => "i64",
+            Dynamic::Float(_) => "f64",
             Dynamic::Char(_) => "char",
             Dynamic::Str(_) => "string",
             Dynamic::Array(_) => "array",

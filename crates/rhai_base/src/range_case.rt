@@ -3,10 +3,13 @@
 
 ghost use Rattle.std.specs.Prelude.{◌≡◌, ◌<◌, ◌-◌, ◌^◌, [], ◌↔◌, IsTrue, length, pos};
 ghost use Rattle.std.specs.Option.{SomeIff};
+ghost use Rattle.rhai_base.specs.Floats.{between};
 ghost use Rattle.rhai_base.specs.Reading.{value_of};
 
+use crate::FLOAT;
 use crate::dynamic::{Dynamic, INT};
 use std::alloc::AllocError;
+use std::num::nearest_i64_to_f64;
 use std::ops::{Range, RangeInclusive};
 
 /// A range of integers that is a case of a `switch`, and the arm that it chooses.
@@ -19,7 +22,7 @@ pub enum RangeCase {
 }
 
 impl RangeCase {
-    ghost use Rattle.rhai_base.specs.Ranges.{numbers, holds, holds_value, is_closed, index_of, numbered};
+    ghost use Rattle.rhai_base.specs.Ranges.{numbers, holds, holds_value, contains_float, is_closed, index_of, numbered};
 
     /// Is no integer in the range?
     pub fn is_empty(&self) -> bool
@@ -31,12 +34,13 @@ impl RangeCase {
         }
     }
 
-    /// Is the value an integer in the range?
+    /// Is the value an integer or a float in the range?
     pub fn contains(&self, value: &Dynamic) -> bool
         ensures { result ≡ holds_value self.now (value_of value.now) }
     {
         match value {
             Dynamic::Int(n) => self.contains_int(*n),
+            Dynamic::Float(x) => self.contains_float(x.value()),
             _ => false,
         }
     }
@@ -49,6 +53,20 @@ impl RangeCase {
             RangeCase::ExclusiveInt(range, _) => range.start <= n && n < range.end,
             RangeCase::InclusiveInt(range, _) => {
                 !range.is_empty() && *range.start() <= n && n <= *range.end()
+            }
+        }
+    }
+
+    /// Is the float between the ends, each as the float that is nearest to it? A range without integers holds none.
+    pub fn contains_float(&self, n: FLOAT) -> bool
+        ensures { result ≡ contains_float self.now n }
+    {
+        match self {
+            RangeCase::ExclusiveInt(range, _) => {
+                nearest_i64_to_f64(range.start) <= n && n < nearest_i64_to_f64(range.end)
+            }
+            RangeCase::InclusiveInt(range, _) => {
+                self.contains_int(*range.start()) && is_between(*range.start(), *range.end(), n)
             }
         }
     }
@@ -107,6 +125,13 @@ impl RangeCase {
             RangeCase::InclusiveInt(_, old) => *old = index,
         }
     }
+}
+
+/// Is the float no less than the one and no greater than the other?
+fn is_between(start: INT, end: INT, n: FLOAT) -> bool
+    ensures { result ≡ between start end n }
+{
+    nearest_i64_to_f64(start) <= n && n <= nearest_i64_to_f64(end)
 }
 
 impl Clone for RangeCase {

@@ -49,6 +49,7 @@ fn end_or(missing: INT, value: &Dynamic) -> Option<INT>
         Dynamic::Unit => Some(missing),
         Dynamic::Int(n) => Some(*n),
         Dynamic::Bool(_)
+        | Dynamic::Float(_)
         | Dynamic::Char(_)
         | Dynamic::Str(_)
         | Dynamic::Array(_)

@@ -17,7 +17,7 @@ use Rattle.ast_types.specs.declared.stmt.Stmt.{Stmt}
 use Rattle.ast_types.specs.declared.stmt.Stmt.TheVariants as stmt_kind
 use Rattle.ast_types.specs.declared.switch.SwitchBlock.{SwitchBlock}
 use Rattle.ast_types.specs.Reading.{arms_of, callee_of, cases_of, counter_of, expr_of, chain_flags, expr_of-Array, expr_of-Dot, expr_of-FnCall, expr_of-Index, expr_of-InterpolatedString, expr_of-Map, expr_of-MethodCall, expr_of-Property, expr_of-Stmt, exprs_of, expressions_of, keys_of, pairs_of, property_names, stmt_of, stmt_of-Block, stmt_of-FnCall, stmt_of-For, stmt_of-If, stmt_of-Switch, stmts_of, subject_of, table_of}
-use Rattle.theory_meaning.specs.Control.{texts_joined}
+use Rattle.theory_meaning.specs.Control.{text_in, texts_joined}
 use Rattle.theory_meaning.specs.Core as core
 use Rattle.theory_meaning.specs.Desugar.{core_expr, core_stmt, core_stmts}
 use Rattle.theory_meaning.specs.Tree as tree
@@ -44,7 +44,7 @@ module _ (here : Setting) (loop : Bool) (s s1 : State) where
     pub array_of_expr : (items got : List Expr) (p : Position) (vs : List Dynamic) → x ≡ expr_kind.Array items p → got ≡ items → RunsExprs here loop (exprs_of got) s (Ok vs) s1 → RunsExpr here loop (expr_of x) s (Ok (value.Array vs)) s1
     array_of_expr items got p vs h k q = expr_as (tree.ArrayOf (exprs_of items)) (Ok (value.Array vs)) (ap expr_of h ∙ expr_of-Array items p) (array_runs here loop (exprs_of items) s s1 vs (subst (λ es. RunsExprs here loop (exprs_of es) s (Ok vs) s1) k q))
 
-    pub text_of_expr : (parts got : List Expr) (p : Position) (vs : List Dynamic) (v : Dynamic) → x ≡ expr_kind.InterpolatedString parts p → got ≡ parts → RunsExprs here loop (exprs_of got) s (Ok vs) s1 → value_of v ≡ TextV (texts_joined (map value_of vs)) → RunsExpr here loop (expr_of x) s (Ok v) s1
+    pub text_of_expr : (parts got : List Expr) (p : Position) (vs : List Dynamic) (v : Dynamic) → x ≡ expr_kind.InterpolatedString parts p → got ≡ parts → RunsExprs here loop (exprs_of got) s (Ok vs) s1 → value_of v ≡ TextV (texts_joined (text_in here.world.host) (map value_of vs)) → RunsExpr here loop (expr_of x) s (Ok v) s1
     text_of_expr parts got p vs v h k q w = expr_as (tree.InterpolatedString (exprs_of parts)) (Ok v) (ap expr_of h ∙ expr_of-InterpolatedString parts p) (string_runs here loop (exprs_of parts) s s1 vs v (subst (λ es. RunsExprs here loop (exprs_of es) s (Ok vs) s1) k q) w)
 
     pub map_of_expr : (m got : List (Ident × Expr) × List (Text × Dynamic)) (p : Position) (r : Result Dynamic Interrupt) → x ≡ expr_kind.Map m p → got ≡ m → RunsCore here (core_expr loop (tree.MapOf (pairs_of got.0) (keys_of got.1))) s r s1 → RunsExpr here loop (expr_of x) s r s1

@@ -5,6 +5,7 @@ mod Nodes
 mod OperatorCalls
 mod Leaving
 mod ByKind
+mod Ranges
 mod Switches
 mod Weights
 mod Invoked

@@ -8,7 +8,7 @@ use Rattle.ast_types.specs.declared.expr.FnCallExpr.{FnCallExpr}
 use Rattle.ast_types.specs.Reading.{callee_of, exprs_of}
 use Rattle.theory_meaning.specs.ActForms.{ask_host, give}
 use Rattle.theory_meaning.specs.Calls.{called}
-use Rattle.theory_meaning.specs.Control.{texts_joined}
+use Rattle.theory_meaning.specs.Control.{text_in, texts_joined}
 use Rattle.theory_meaning.specs.Core as core
 use Rattle.theory_meaning.specs.Desugar.{callee_by, core_expr, core_exprs, core_stmts}
 use Rattle.theory_meaning.specs.Meaning.{text}
@@ -33,8 +33,8 @@ module _ (here : Setting) (loop : Bool) where
   pub array_runs : (es : tree.Exprs) (s s1 : State) (vs : List Dynamic) → RunsExprs here loop es s (Ok vs) s1 → RunsExpr here loop (tree.ArrayOf es) s (Ok (value.Array vs)) s1
   array_runs es s s1 vs q = goes_then here (q (λ us. give (ArrayV (values us)))) (gives here _ _ s1 (sym (value_of-Array vs)))
 
-  pub string_runs : (es : tree.Exprs) (s s1 : State) (vs : List Dynamic) (v : Dynamic) → RunsExprs here loop es s (Ok vs) s1 → value_of v ≡ TextV (texts_joined (map value_of vs)) → RunsExpr here loop (tree.InterpolatedString es) s (Ok v) s1
-  string_runs es s s1 vs v q h = goes_then here (q text) (gives here _ _ s1 (sym h))
+  pub string_runs : (es : tree.Exprs) (s s1 : State) (vs : List Dynamic) (v : Dynamic) → RunsExprs here loop es s (Ok vs) s1 → value_of v ≡ TextV (texts_joined (text_in here.world.host) (map value_of vs)) → RunsExpr here loop (tree.InterpolatedString es) s (Ok v) s1
+  string_runs es s s1 vs v q h = goes_then here (q (text here.world)) (gives here _ _ s1 (sym h))
 
   -- ---- calls
 

@@ -24,6 +24,8 @@ use Rattle.run_state.specs.declared.state.Interrupt.{Interrupt}
 use Rattle.run_state.specs.declared.state.State.{State}
 use Rattle.run_state.specs.Evaluating.{arms_here, or_stuck, RunsArm, RunsExpr, RunsFirstArm}
 use Rattle.run_state.specs.Runs.{Setting, Acting, Goes, Stops, Runs, given}
+use Rattle.rhai_base.specs.Ranges.{holds_value}
+use Rattle.run_evaluator.proofs.Ranges.{held_is}
 use Rattle.run_state.proofs.Goes.{gives, goes_as, goes_then, stops_then, leads_then, value_goes, value_stops, if_goes, if_stops}
 
 -- ---- ranges
@@ -117,6 +119,10 @@ module _ (here : Setting) (loop : Bool) (bs : List BinaryExpr) where
   first_then : (c : Bool) (i : ℕ) (is : List ℕ) (default : Act) → first_arm (arm_list here loop bs) (cond c (i ∷ is) is) default ≡ first_arm (arm_list here loop bs) (cond c (i ∷ []) []) (first_arm (arm_list here loop bs) is default)
   first_then true i is default = refl
   first_then false i is default = refl
+
+  -- a range that does not hold the value
+  pub range_misses : (r : RangeCase) (v : Value) (s : State) → false ≡ holds_value r v → RunsFirstArm here (arm_list here loop bs) (ranges_with (range_of r ∷ []) v) s (Ok None) s
+  range_misses r v s h = λ default. goes_as here _ _ s (ap (λ b. Acting (first_arm (arm_list here loop bs) (cond b ((range_of r).arm ∷ []) []) default)) (sym (h ∙ held_is r v)))
 
   module _ (v : Value) (ranges rest after : List SwitchRange) (r : SwitchRange) (s s1 s2 : State) (h : rest ≡ r ∷ after) (at : RangesAt v ranges rest s s1) where
     range_here : (default : Act) → Goes here (Acting (first_arm (arm_list here loop bs) (ranges_with ranges v) default)) s (Acting (first_arm (arm_list here loop bs) (ranges_with (r ∷ []) v) (first_arm (arm_list here loop bs) (ranges_with after v) default))) s1

@@ -64,11 +64,13 @@ impl<'a, H: Host> Evaluator<'a, H> {
             Expr::DynamicConstant(value, _) => constant(value.get()),
             Expr::BoolConstant(b, _) => Ok(Dynamic::Bool(*b)),
             Expr::IntegerConstant(n, _) => Ok(Dynamic::Int(*n)),
+            Expr::FloatConstant(x, _) => Ok(Dynamic::Float(*x)),
             Expr::CharConstant(c, _) => Ok(Dynamic::Char(*c)),
             Expr::StringConstant(text, _) => Ok(Dynamic::Str(text.clone()?)),
             Expr::Unit(_) => Ok(Dynamic::Unit),
             Expr::InterpolatedString(parts, _) => {
                 Ok(joined_text(
+                    self.machine.host,
                     self.machine.alloc,
                     self.exprs(state, parts.get().as_slice())?,
                 )?)

@@ -41,7 +41,9 @@ pub trait Host {
     /// The values of modules, by their names joined by `::`, and the modules by their paths.
     ghost modules: { Self → Modules };
 
-    /// Answers a call; `past` are the calls of the run before it. The answer hangs on these two alone.
+    /// Answers a call; `past` are the calls of the run before it. The answer hangs on these two alone. `to_string` with
+    /// one argument is asked too for the text of a value that holds a float, where a text is interpolated: this is no
+    /// call of the run, and `past` is empty.
     fn answer(
         &self,
         alloc: Global,

@@ -4,9 +4,11 @@
 mod host;
 mod print;
 mod report;
+mod text;
 mod unit_host;
 
 pub use host::{Host, HostAnswer, HostCall, ask};
 pub use print::push_report;
 pub use report::{Export, RunEnd, RunReport, Stuck, Variable};
+pub use text::push_text;
 pub use unit_host::UnitHost;

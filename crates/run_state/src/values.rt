@@ -7,12 +7,13 @@ ghost use Rattle.theory_meaning.specs.Shape.{is_unit};
 ghost use Rattle.rhai_base.specs.Reading.{value_of};
 ghost use Rattle.rhai_base.specs.Value.{TextV};
 ghost use Rattle.theory_meaning.specs.ActForms.{truth as truth_of};
-ghost use Rattle.theory_meaning.specs.Control.{texts_joined};
+ghost use Rattle.theory_meaning.specs.Control.{text_in, texts_joined};
+ghost use Rattle.run_host.specs.Host.{host_of};
 ghost use Rattle.run_state.specs.Evaluating.{or_stuck, IsConstant};
 
 use crate::state::Interrupt;
-use rhai_base::{Dynamic, ImmutableString, Seq};
-use run_host::Stuck;
+use rhai_base::{Dynamic, ImmutableString, OutOfMemory, Seq};
+use run_host::{Host, Stuck, push_text};
 use std::alloc::{AllocError, Global};
 
 /// Whether a condition holds; a value that is no bool is stuck.
@@ -45,14 +46,19 @@ pub fn constant(value: &Dynamic) -> Result<Dynamic, Interrupt>
     Ok(value.clone()?)
 }
 
-/// The texts of values, joined.
+/// The texts of values, joined, where the host says how a value is written that holds a float.
 #[inline(never)]
-pub fn joined_text(alloc: Global, values: Seq<Dynamic>) -> Result<Dynamic, AllocError>
-    ensures { IfOk result (λ v. value_of v ≡ TextV (texts_joined (map value_of values))) }
+pub fn joined_text<H: Host>(
+    host: &H,
+    alloc: Global,
+    values: Seq<Dynamic>,
+) -> Result<Dynamic, OutOfMemory>
+    ensures { IfOk result (λ v. value_of v
+        ≡ TextV (texts_joined (text_in (host_of (H.answers host.now) (H.modules host.now))) (map value_of values))) }
 {
     let mut text = String::new(alloc);
     for value in values.as_slice() {
-        value.push_text(&mut text)?;
+        push_text(host, alloc, value, &mut text)?;
     }
     Ok(Dynamic::Str(ImmutableString::from_string(text)?))
 }

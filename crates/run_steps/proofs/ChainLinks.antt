@@ -3,7 +3,7 @@ use Rattle.std.proofs.Common.{◌≡◌, ◌+◌, ◌≤◌, Bool, true, false, 
 use Rattle.std.specs.Prelude.{IfSome}
 use Rattle.ast_types.specs.declared.expr.Expr.{Expr}
 use Rattle.ast_types.specs.Reading.{chain_flags, expr_of, is_negated}
-use Rattle.ast_types.proofs.Cases.{ExprCase, expr_cases, dynamic_constant_case, bool_constant_case, integer_constant_case, char_constant_case, string_constant_case, interpolated_string_case, array_case, map_case, unit_case, variable_case, this_ptr_case, property_case, method_call_case, braces_case, call_case, dot_case, index_case, and_case, or_case, coalesce_case}
+use Rattle.ast_types.proofs.Cases.{ExprCase, expr_cases, dynamic_constant_case, bool_constant_case, integer_constant_case, float_constant_case, char_constant_case, string_constant_case, interpolated_string_case, array_case, map_case, unit_case, variable_case, this_ptr_case, property_case, method_call_case, braces_case, call_case, dot_case, index_case, and_case, or_case, coalesce_case}
 use Rattle.theory_meaning.specs.Core as core
 use Rattle.theory_meaning.specs.Desugar.{steps_of}
 use Rattle.theory_meaning.specs.Tree as tree
@@ -27,6 +27,7 @@ end_by loop dot k q (method_call_case f p) h i = refl
 end_by loop dot k q (dynamic_constant_case v p) h i = refl
 end_by loop dot k q (bool_constant_case b p) h i = refl
 end_by loop dot k q (integer_constant_case n p) h i = refl
+end_by loop dot k q (float_constant_case y p) h i = refl
 end_by loop dot k q (char_constant_case c p) h i = refl
 end_by loop dot k q (string_constant_case t p) h i = refl
 end_by loop dot k q (interpolated_string_case xs p) h i = refl

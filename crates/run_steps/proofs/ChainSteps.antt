@@ -9,7 +9,7 @@ use Rattle.ast_types.specs.declared.expr.Expr.{Expr}
 use Rattle.ast_types.specs.declared.expr.Expr.TheVariants as kind
 use Rattle.ast_types.specs.declared.expr.FnCallExpr.{FnCallExpr}
 use Rattle.ast_types.specs.Reading.{callee_of, expr_of, expr_of-MethodCall, exprs_of, is_negated}
-use Rattle.ast_types.proofs.Cases.{ExprCase, expr_cases, dynamic_constant_case, bool_constant_case, integer_constant_case, char_constant_case, string_constant_case, interpolated_string_case, array_case, map_case, unit_case, variable_case, this_ptr_case, property_case, method_call_case, braces_case, call_case, dot_case, index_case, and_case, or_case, coalesce_case}
+use Rattle.ast_types.proofs.Cases.{ExprCase, expr_cases, dynamic_constant_case, bool_constant_case, integer_constant_case, float_constant_case, char_constant_case, string_constant_case, interpolated_string_case, array_case, map_case, unit_case, variable_case, this_ptr_case, property_case, method_call_case, braces_case, call_case, dot_case, index_case, and_case, or_case, coalesce_case}
 use Rattle.theory_meaning.specs.Act as act
 use Rattle.theory_meaning.specs.Act.{Act, Ended, Gives, At}
 use Rattle.theory_meaning.specs.ActForms.{choose, give, unit}
@@ -176,6 +176,7 @@ no_member loop (method_call_case f p) h k = absurd (k f p refl)
 no_member loop (dynamic_constant_case v p) h k = refl
 no_member loop (bool_constant_case b p) h k = refl
 no_member loop (integer_constant_case n p) h k = refl
+no_member loop (float_constant_case y p) h k = refl
 no_member loop (char_constant_case c p) h k = refl
 no_member loop (string_constant_case t p) h k = refl
 no_member loop (interpolated_string_case xs p) h k = refl

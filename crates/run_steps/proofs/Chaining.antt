@@ -3,7 +3,7 @@ use Rattle.std.proofs.Common.{◌≡◌, ℕ, true, false, List, [], ◌∷◌, 
 use Rattle.std.specs.Prelude.{codes, is_some, option_map}
 use Rattle.rhai_base.specs.declared.dynamic.Dynamic.{Dynamic}
 use Rattle.rhai_base.specs.Reading.{value_of}
-use Rattle.rhai_base.specs.Value.{Text, Value, UnitV, BoolV, IntV, CharV, TextV, ArrayV, MapV, PointerV, RangeV, RangeInclusiveV}
+use Rattle.rhai_base.specs.Value.{Text, Value, UnitV, BoolV, IntV, FloatV, CharV, TextV, ArrayV, MapV, PointerV, RangeV, RangeInclusiveV}
 use Rattle.theory_meaning.specs.Act.{Answer, At, Store, Act, run}
 use Rattle.theory_meaning.specs.Act as act
 use Rattle.theory_meaning.specs.ActForms.{answered, ask_method, give}
@@ -29,6 +29,7 @@ property_part p c (MapV fs) w next h = refl
 property_part p c UnitV w next h = cc
 property_part p c (BoolV b) w next h = cc
 property_part p c (IntV n) w next h = cc
+property_part p c (FloatV d) w next h = cc
 property_part p c (CharV d) w next h = cc
 property_part p c (TextV t) w next h = cc
 property_part p c (ArrayV vs) w next h = cc
@@ -41,6 +42,7 @@ property_asks p c (MapV fs) next h = cc
 property_asks p c UnitV next h = refl
 property_asks p c (BoolV b) next h = refl
 property_asks p c (IntV n) next h = refl
+property_asks p c (FloatV d) next h = refl
 property_asks p c (CharV d) next h = refl
 property_asks p c (TextV t) next h = refl
 property_asks p c (ArrayV vs) next h = refl
@@ -99,6 +101,7 @@ property_set_part p v at c (MapV fs) w h = refl
 property_set_part p v at c UnitV w h = cc
 property_set_part p v at c (BoolV b) w h = cc
 property_set_part p v at c (IntV n) w h = cc
+property_set_part p v at c (FloatV d) w h = cc
 property_set_part p v at c (CharV d) w h = cc
 property_set_part p v at c (TextV t) w h = cc
 property_set_part p v at c (ArrayV vs) w h = cc
@@ -111,6 +114,7 @@ property_set_asks p v at c (MapV fs) h = cc
 property_set_asks p v at c UnitV h = refl
 property_set_asks p v at c (BoolV b) h = refl
 property_set_asks p v at c (IntV n) h = refl
+property_set_asks p v at c (FloatV d) h = refl
 property_set_asks p v at c (CharV d) h = refl
 property_set_asks p v at c (TextV t) h = refl
 property_set_asks p v at c (ArrayV vs) h = refl

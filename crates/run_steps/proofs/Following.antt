@@ -1,7 +1,7 @@
 -- Chains whose steps run nothing.
 use Rattle.std.proofs.Common.{◌≡◌, ℤ, Bool, true, false, ◌&&◌, [], ◌∷◌, ◌++◌, Option, Some, None, refl, sym, ap, ◌∙◌, subst}
 use Rattle.std.specs.Prelude.{IfSome, codes, option_map}
-use Rattle.rhai_base.specs.Value.{Value, Values, UnitV, BoolV, IntV, CharV, TextV, ArrayV, MapV, PointerV, RangeV, RangeInclusiveV, Fields}
+use Rattle.rhai_base.specs.Value.{Value, Values, UnitV, BoolV, IntV, FloatV, CharV, TextV, ArrayV, MapV, PointerV, RangeV, RangeInclusiveV, Fields}
 use Rattle.ast_types.specs.declared.expr.Expr.{Expr}
 use Rattle.ast_types.specs.Reading.{expr_of, is_negated}
 use Rattle.theory_meaning.specs.Act as act
@@ -37,6 +37,7 @@ not_unit : (u : Value) (k : places.PlaceKey) (w : Value) → inside u k ≡ Some
 not_unit UnitV k w h = absurd (cc)
 not_unit (BoolV b) k w h = refl
 not_unit (IntV n) k w h = refl
+not_unit (FloatV d) k w h = refl
 not_unit (CharV d) k w h = refl
 not_unit (TextV t) k w h = refl
 not_unit (ArrayV vs) k w h = refl

@@ -6,7 +6,7 @@ use Rattle.rhai_base.specs.declared.dynamic.Dynamic.{Dynamic}
 use Rattle.rhai_base.specs.Builtin.{operator_of}
 use Rattle.rhai_base.specs.Operators.{Operator}
 use Rattle.rhai_base.specs.Reading.{value_of}
-use Rattle.rhai_base.specs.Value.{Text, Value, UnitV, BoolV, IntV, CharV, TextV, ArrayV, MapV, PointerV, RangeV, RangeInclusiveV, Fields, Values}
+use Rattle.rhai_base.specs.Value.{Text, Value, UnitV, BoolV, IntV, FloatV, CharV, TextV, ArrayV, MapV, PointerV, RangeV, RangeInclusiveV, Fields, Values}
 use Rattle.ast_types.specs.declared.expr.Expr.{Expr}
 use Rattle.ast_types.specs.Reading.{expr_of, is_negated}
 use Rattle.theory_meaning.specs.Act as act
@@ -48,6 +48,7 @@ entry_inside (MapV fs) k v h = (fs, (refl, (let z : Some (entry fs k) ≡ Some v
 entry_inside UnitV k v h = absurd (cc)
 entry_inside (BoolV b) k v h = absurd (cc)
 entry_inside (IntV n) k v h = absurd (cc)
+entry_inside (FloatV d) k v h = absurd (cc)
 entry_inside (CharV d) k v h = absurd (cc)
 entry_inside (TextV t) k v h = absurd (cc)
 entry_inside (ArrayV vs) k v h = absurd (cc)
@@ -60,6 +61,7 @@ element_inside (ArrayV vs) n v h = (vs, (refl, h))
 element_inside UnitV n v h = absurd (cc)
 element_inside (BoolV b) n v h = absurd (cc)
 element_inside (IntV m) n v h = absurd (cc)
+element_inside (FloatV d) n v h = absurd (cc)
 element_inside (CharV d) n v h = absurd (cc)
 element_inside (TextV t) n v h = absurd (cc)
 element_inside (MapV fs) n v h = absurd (cc)

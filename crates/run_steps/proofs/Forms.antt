@@ -9,7 +9,7 @@ use Rattle.rhai_base.specs.Operators.{Operator, Plus, Minus, Multiply, Divide, M
 use Rattle.ast_types.specs.declared.expr.Expr.{Expr}
 use Rattle.ast_types.specs.declared.expr.Expr.TheVariants as kind
 use Rattle.ast_types.specs.Reading.{expr_of}
-use Rattle.ast_types.proofs.Cases.{ExprCase, expr_cases, dynamic_constant_case, bool_constant_case, integer_constant_case, char_constant_case, string_constant_case, interpolated_string_case, array_case, map_case, unit_case, variable_case, this_ptr_case, property_case, method_call_case, braces_case, call_case, dot_case, index_case, and_case, or_case, coalesce_case}
+use Rattle.ast_types.proofs.Cases.{ExprCase, expr_cases, dynamic_constant_case, bool_constant_case, integer_constant_case, float_constant_case, char_constant_case, string_constant_case, interpolated_string_case, array_case, map_case, unit_case, variable_case, this_ptr_case, property_case, method_call_case, braces_case, call_case, dot_case, index_case, and_case, or_case, coalesce_case}
 use Rattle.theory_meaning.specs.Desugar.{root_of}
 use Rattle.theory_meaning.specs.Shape.{catch_name}
 use Rattle.theory_meaning.specs.Tree as tree
@@ -24,6 +24,7 @@ no_catch (variable_case v short p) h k = absurd (k v short p refl)
 no_catch (dynamic_constant_case v p) h k = refl
 no_catch (bool_constant_case b p) h k = refl
 no_catch (integer_constant_case n p) h k = refl
+no_catch (float_constant_case y p) h k = refl
 no_catch (char_constant_case c p) h k = refl
 no_catch (string_constant_case t p) h k = refl
 no_catch (interpolated_string_case xs p) h k = refl
@@ -50,6 +51,7 @@ no_root (unit_case p) k h = refl
 no_root (dynamic_constant_case v p) k h = refl
 no_root (bool_constant_case b p) k h = refl
 no_root (integer_constant_case n p) k h = refl
+no_root (float_constant_case y p) k h = refl
 no_root (char_constant_case c p) k h = refl
 no_root (string_constant_case t p) k h = refl
 no_root (interpolated_string_case xs p) k h = refl

@@ -5,7 +5,7 @@ use Rattle.std.proofs.lemmas.List.{set-get_or}
 use Rattle.std.proofs.lemmas.Option.{IfSome_then}
 use Rattle.rhai_base.specs.declared.dynamic.Dynamic.{Dynamic}
 use Rattle.rhai_base.specs.Reading.{value_of}
-use Rattle.rhai_base.specs.Value.{Text, Value, UnitV, BoolV, IntV, CharV, TextV, ArrayV, MapV, PointerV, RangeV, RangeInclusiveV}
+use Rattle.rhai_base.specs.Value.{Text, Value, UnitV, BoolV, IntV, FloatV, CharV, TextV, ArrayV, MapV, PointerV, RangeV, RangeInclusiveV}
 use Rattle.theory_meaning.specs.Act as act
 use Rattle.theory_meaning.specs.Act.{IsConstant, is_constant, ScopeEntry, IsStuck, NoPlace, WriteToConstant, Gives, Ended, Halted, At, Store, Act, OfName, OfThis, Read, Write, and_then, found, put, read, read_root, read_this, run, write, write_at, write_root, write_this}
 use Rattle.theory_meaning.specs.ActForms.{value_then}
@@ -42,6 +42,7 @@ with_inside_some (MapV fs) (AtIndex i) u u' h = absurd (cc)
 with_inside_some UnitV k u u' h = absurd (cc)
 with_inside_some (BoolV b) k u u' h = absurd (cc)
 with_inside_some (IntV n) k u u' h = absurd (cc)
+with_inside_some (FloatV d) k u u' h = absurd (cc)
 with_inside_some (CharV d) k u u' h = absurd (cc)
 with_inside_some (TextV t) k u u' h = absurd (cc)
 with_inside_some (PointerV f vs) k u u' h = absurd (cc)

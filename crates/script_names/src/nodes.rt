@@ -30,6 +30,7 @@ pub fn renamed_expr(alloc: Global, names: &Names, expr: &Expr) -> Result<Expr, O
         }
         Expr::BoolConstant(_, _)
         | Expr::IntegerConstant(_, _)
+        | Expr::FloatConstant(_, _)
         | Expr::CharConstant(_, _)
         | Expr::StringConstant(_, _)
         | Expr::Unit(_)

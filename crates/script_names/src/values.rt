@@ -25,6 +25,7 @@ pub fn renamed_value(alloc: Global, names: &Names, value: &Dynamic) -> Result<Dy
         Dynamic::Unit => Ok(Dynamic::Unit),
         Dynamic::Bool(b) => Ok(Dynamic::Bool(*b)),
         Dynamic::Int(n) => Ok(Dynamic::Int(*n)),
+        Dynamic::Float(x) => Ok(Dynamic::Float(*x)),
         Dynamic::Char(c) => Ok(Dynamic::Char(*c)),
         Dynamic::Str(text) => Ok(Dynamic::Str(text.clone()?)),
         Dynamic::Array(items) => {

@@ -8,6 +8,8 @@ use base_tokens::Token;
 pub enum Lexeme<'a> {
     /// An integer.
     Integer(i64),
+    /// A float, or an integer of more than 64 bits: its letters.
+    Float(&'a str),
     /// `true`, `false`
     Bool(bool),
     /// `'c'`
@@ -120,7 +122,7 @@ pub enum Mark {
     Underscore,
 }
 
-/// Why letters are no word. The names are rhai's, but for the float's, which has no node here.
+/// Why letters are no word. The names are rhai's.
 #[derive(Clone, Copy, Debug, PartialEq, Eq)]
 pub enum Misread {
     /// No word begins so.
@@ -129,7 +131,7 @@ pub enum Misread {
     UnterminatedString,
     /// No escape.
     MalformedEscapeSequence,
-    /// No integer, or one too large.
+    /// No digits of its base, or more than 64 bits.
     MalformedNumber,
     /// No character, or several.
     MalformedChar,
@@ -137,6 +139,4 @@ pub enum Misread {
     MalformedIdentifier,
     /// A sign that is kept for later.
     ImproperSymbol,
-    /// A float.
-    FloatNotSupported,
 }

@@ -1,26 +1,67 @@
-//! Integers.
+//! Numbers.
 
 use crate::lexeme::{Lexeme, Misread};
 use crate::place::{Kind, Place, run_of};
 /// The integers of scripts.
 type INT = i64;
 
-/// The integer that stands next, which begins with a digit.
+/// The number that stands next, which begins with a digit.
 pub(crate) fn number_at(place: Place<'_>) -> (Lexeme<'_>, Place<'_>) {
-    let bytes = place.rest().as_bytes();
-    let radix = radix_at(bytes);
-    let prefix: usize = if radix == 10 { 0 } else { 2 };
+    match radix_at(place.rest().as_bytes()) {
+        10 => decimal_at(place),
+        radix => integer_at(place, radix),
+    }
+}
+
+/// A number without a base: a float where it is no integer of 64 bits.
+fn decimal_at(place: Place<'_>) -> (Lexeme<'_>, Place<'_>) {
+    let (text, behind) = place.split(decimal_length(place.rest().as_bytes()));
+    match value_of(text.as_bytes(), 10) {
+        Some(value) => (Lexeme::Integer(value), behind),
+        None => (Lexeme::Float(text), behind),
+    }
+}
+
+fn decimal_length(bytes: &[u8]) -> usize {
+    let whole = run_of(bytes, Kind::Digits);
+    let fraction = fraction_length(bytes.get(whole..).unwrap_or(b""));
+    let length = whole.saturating_add(fraction);
+    length.saturating_add(exponent_length(bytes.get(length..).unwrap_or(b"")))
+}
+
+/// How long a `.` and the digits behind it are; nothing, where it begins a property or a range.
+fn fraction_length(bytes: &[u8]) -> usize {
+    match bytes {
+        [b'.', next, ..] if next.is_ascii_alphabetic() || b"_.".contains(next) => 0,
+        [b'.', ..] => digits_behind(bytes, 1),
+        _ => 0,
+    }
+}
+
+/// How long an `e` with its sign and the digits behind it are; nothing, where neither follows.
+fn exponent_length(bytes: &[u8]) -> usize {
+    match bytes {
+        [b'e', b'+' | b'-', ..] => digits_behind(bytes, 2),
+        [b'e', b'0'..=b'9', ..] => digits_behind(bytes, 1),
+        _ => 0,
+    }
+}
+
+/// So many bytes, and the digits behind them.
+fn digits_behind(bytes: &[u8], count: usize) -> usize {
+    run_of(bytes.get(count..).unwrap_or(b""), Kind::Digits).saturating_add(count)
+}
+
+/// An integer behind its base.
+fn integer_at(place: Place<'_>, radix: u64) -> (Lexeme<'_>, Place<'_>) {
     let kind = if radix == 16 {
         Kind::HexDigits
     } else {
         Kind::Digits
     };
-    let digits = run_of(bytes.get(prefix..).unwrap_or(b""), kind);
-    let (text, behind) = place.split(prefix.saturating_add(digits));
-    if radix == 10 && goes_on_as_float(behind.rest().as_bytes()) {
-        return (Lexeme::Bad(Misread::FloatNotSupported, text), behind);
-    }
-    let digits = text.as_bytes().get(prefix..).unwrap_or(b"");
+    let count = run_of(place.behind(2).rest().as_bytes(), kind);
+    let (text, behind) = place.split(count.saturating_add(2));
+    let digits = text.as_bytes().get(2..).unwrap_or(b"");
     match value_of(digits, radix) {
         Some(value) => (Lexeme::Integer(value), behind),
         None => (Lexeme::Bad(Misread::MalformedNumber, text), behind),
@@ -33,16 +74,6 @@ fn radix_at(bytes: &[u8]) -> u64 {
         [b'0', b'o' | b'O', ..] => 8,
         [b'0', b'b' | b'B', ..] => 2,
         _ => 10,
-    }
-}
-
-/// Whether digits before this are a float's: a `.` that begins neither a property nor a range, or an exponent.
-fn goes_on_as_float(bytes: &[u8]) -> bool {
-    match bytes {
-        [b'.', next, ..] => !next.is_ascii_alphabetic() && *next != b'_' && *next != b'.',
-        [b'.'] => true,
-        [b'e', next, ..] => next.is_ascii_digit() || *next == b'+' || *next == b'-',
-        _ => false,
     }
 }
 

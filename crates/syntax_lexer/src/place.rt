@@ -30,6 +30,16 @@ impl<'a> Place<'a> {
         }
     }
 
+    /// The beginning of a script: behind a byte order mark, and behind what a first line `#!` has.
+    pub fn of_script(text: &'a str) -> Place<'a> {
+        let place = Place::first(text.strip_prefix('\u{feff}').unwrap_or(text));
+        if place.starts("#!") {
+            place.behind(run_of(place.rest.as_bytes(), Kind::OfLine))
+        } else {
+            place
+        }
+    }
+
     /// What is left.
     pub fn rest(self) -> &'a str {
         self.rest

@@ -25,10 +25,9 @@ static D_WORDS: [Word; 3] = [
     ("debug", None),
 ];
 
-static E_WORDS: [Word; 4] = [
+static E_WORDS: [Word; 3] = [
     ("else", Some(Keyword::Else)),
     ("export", Some(Keyword::Export)),
-    ("exit", None),
     ("eval", None),
 ];
 

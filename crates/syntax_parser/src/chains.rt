@@ -183,19 +183,18 @@ fn first_index(rhs: &Expr, flags: ASTFlags) -> &Expr {
 fn malformed_index(base: &Expr, index: &Expr) -> Option<(&'static str, Position)> {
     let kind = kind_of(index);
     match base {
-        Expr::Map(..) if is_among(kind, &["an integer", "a character", "()"]) => {
+        Expr::Map(..) if is_among(kind, &["an integer", "a float", "a character", "()"]) => {
             Some(("a map is indexed by texts", index.start_position()))
         }
         Expr::IntegerConstant(..)
         | Expr::Array(..)
         | Expr::StringConstant(..)
         | Expr::InterpolatedString(..)
-            if is_among(kind, &["a text", "a character", "()"]) => {
+            if is_among(kind, &["a float", "a text", "a character", "()"]) => {
             Some(("this is indexed by integers", index.start_position()))
         }
-        Expr::CharConstant(..) | Expr::BoolConstant(..) | Expr::Unit(_) => {
-            Some(("this has no index", base.start_position()))
-        }
+        Expr::FloatConstant(..) | Expr::CharConstant(..) | Expr::BoolConstant(..) | Expr::Unit(_) =>
+            { Some(("this has no index", base.start_position())) }
         Expr::And(..) | Expr::Or(..) => Some(("a bool has no index", base.start_position())),
         _ => None,
     }

@@ -19,8 +19,8 @@ pub enum LexError {
     /// No escape.
     #[error("there is no such escape in a text")]
     MalformedEscapeSequence,
-    /// No integer, or one that is too large.
-    #[error("`{0}` is no integer of 64 bits")]
+    /// No number, or an integer with a base and more than 64 bits.
+    #[error("`{0}` is no number")]
     MalformedNumber(String),
     /// No character, or several.
     #[error("{0} is not one character")]
@@ -31,9 +31,6 @@ pub enum LexError {
     /// A sign that cannot stand there, and what may be meant.
     #[error("`{0}` cannot stand here: {1}")]
     ImproperSymbol(String, &'static str),
-    /// A float, of which there are none in this language.
-    #[error("`{0}` begins a float, and there are no floats here")]
-    FloatNotSupported(String),
 }
 
 /// Why a text is no script.
@@ -63,6 +60,9 @@ pub enum ParseErrorType {
     /// An integer behind a range that stays one.
     #[error("an integer cannot stand behind a range in a `switch`")]
     WrongSwitchIntegerCase,
+    /// A float as a case, or in one. It is not in rhai.
+    #[error("a float is no case of a `switch` here")]
+    WrongSwitchFloatCase,
     /// A default that is not last.
     #[error("the default comes last in a `switch`")]
     WrongSwitchDefaultCase,
@@ -84,9 +84,6 @@ pub enum ParseErrorType {
     /// Such an expression should stand there.
     #[error("expected {0}")]
     ExprExpected(&'static str),
-    /// Comments that document nothing.
-    #[error("this comment documents no function")]
-    WrongDocComment,
     /// A function within something else.
     #[error("a function stands at the top level alone")]
     WrongFnDefinition,
@@ -115,7 +112,7 @@ pub enum ParseErrorType {
     #[error("an assignment to what is no place")]
     AssignmentToInvalidLHS,
     /// Nested more deeply than the options allow.
-    #[error("nested too deeply")]
+    #[error("nested more deeply than is read: 64 levels, 32 in functions, if nothing else is asked for")]
     ExprTooDeep,
     /// A way out of a loop where there is none.
     #[error("there is no loop around this")]

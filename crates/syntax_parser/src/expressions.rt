@@ -4,8 +4,12 @@ use crate::inside::Inside;
 use crate::operators::{Infix, Reach};
 use crate::parser::Parser;
 use rhai_ast::Expr;
-use rhai_base::{Position, Token};
+use rhai_base::{FloatWrapper, INT, Position, Token};
+use std::num::nearest_i64_to_f64;
 use syntax_lexer::{Keyword, Lexeme, Mark};
+
+/// The bit of a float that is its sign.
+const SIGN: u64 = 0x8000_0000_0000_0000;
 
 impl<'a> Parser<'a> {
     /// The expression that stands next.
@@ -67,21 +71,31 @@ impl<'a> Parser<'a> {
         };
         let inside = self.below(inside)?;
         let pos = self.take();
+        let is_least = token == Token::UnaryMinus && self.is_past_greatest();
         let operand = self.operand(inside);
+        if is_least && matches!(operand, Some(Expr::FloatConstant(..))) {
+            return Some(Expr::IntegerConstant(INT::MIN, pos));
+        }
         self.signed(token, operand, pos)
     }
 
-    /// A sign over an operand; over an integer that literal.
+    /// Whether the integer behind the greatest one stands next, which a sign makes the least one.
+    fn is_past_greatest(&self) -> bool {
+        matches!(self.lexeme(), Lexeme::Float("9223372036854775808"))
+    }
+
+    /// A sign over an operand; over a number that literal.
     fn signed(&self, token: Token, operand: Option<Expr>, pos: Position) -> Option<Expr> {
         match (token, operand?) {
             (Token::UnaryPlus, Expr::IntegerConstant(value, _)) => {
                 Some(Expr::IntegerConstant(value, pos))
             }
-            (Token::UnaryMinus, Expr::IntegerConstant(value, _)) => {
-                match value.checked_neg() {
-                    Some(value) => Some(Expr::IntegerConstant(value, pos)),
-                    None => self.too_large(pos),
-                }
+            (Token::UnaryPlus, Expr::FloatConstant(value, _)) => {
+                Some(Expr::FloatConstant(value, pos))
+            }
+            (Token::UnaryMinus, Expr::IntegerConstant(value, _)) => Some(negated(value, pos)),
+            (Token::UnaryMinus, Expr::FloatConstant(value, _)) => {
+                Some(Expr::FloatConstant(opposite(value), pos))
             }
             (token, operand) => self.operation(token, self.two(Some(operand), None), pos),
         }
@@ -150,4 +164,20 @@ impl<'a> Parser<'a> {
         let statement = self.flow(keyword, inside);
         self.braced(self.alone(statement, start))
     }
+}
+
+/// The integer with the other sign; the least one has none, and becomes a float.
+fn negated(value: INT, pos: Position) -> Expr {
+    match value.checked_neg() {
+        Some(value) => Expr::IntegerConstant(value, pos),
+        None => {
+            let least = FloatWrapper::new(nearest_i64_to_f64(value));
+            Expr::FloatConstant(opposite(least), pos)
+        }
+    }
+}
+
+/// The float with the other sign.
+fn opposite(value: FloatWrapper) -> FloatWrapper {
+    FloatWrapper::from_bits(value.bits() ^ SIGN)
 }

@@ -6,7 +6,7 @@ use crate::parser::Parser;
 use rhai_ast::{FnAccess, ScriptFuncDef, StmtBlock};
 use rhai_base::{Ident, ImmutableString, Position, Seq, Token};
 use std::collections::HashSet;
-use syntax_lexer::{Keyword, Lexeme, Mark};
+use syntax_lexer::{Keyword, Lexeme, Mark, next_lexeme};
 
 /// What stands before the parameters of a function.
 #[derive(Drop)]
@@ -17,31 +17,25 @@ struct Header<'a> {
 }
 
 impl<'a> Parser<'a> {
-    /// Comments and the function that they document.
-    pub(crate) fn documented(&self, inside: Inside) {
-        let start = self.here();
-        let comments = self.comments();
-        match self.lexeme() {
-            Lexeme::Keyword(Keyword::Fn | Keyword::Private) => self.function(comments, inside),
-            _ => self.refuse(ParseErrorType::WrongDocComment, start),
-        }
-    }
-
-    /// Comments: neighbouring lines are one, and so is each block.
+    /// The comments before what stands next: neighbouring lines are one, and so is each block.
     fn comments(&self) -> Vec<ImmutableString> {
         let mut comments = Vec::new(self.alloc);
         let mut lines: Option<String> = None;
+        let mut place = self.place();
         for _ in 0..self.most() {
-            let Lexeme::Doc(text) = self.lexeme() else {
-                break;
-            };
-            self.take();
-            if text.starts_with("///") {
-                lines = self.made(crate::nodes::joined(self.alloc, lines, text));
-            } else {
-                self.push_comment(&mut comments, lines);
-                lines = None;
-                self.push(&mut comments, self.shared(text));
+            let next = next_lexeme(place);
+            place = next.behind;
+            match next.lexeme {
+                Lexeme::ScriptDoc(_) => {}
+                Lexeme::Doc(text) if text.starts_with("///") => {
+                    lines = self.made(crate::nodes::joined(self.alloc, lines, text));
+                }
+                Lexeme::Doc(text) => {
+                    self.push_comment(&mut comments, lines);
+                    lines = None;
+                    self.push(&mut comments, self.shared(text));
+                }
+                _ => break,
             }
         }
         self.push_comment(&mut comments, lines);
@@ -55,9 +49,10 @@ impl<'a> Parser<'a> {
         }
     }
 
-    /// A function, whose first word stands next; it goes to the table.
-    pub(crate) fn function(&self, comments: Vec<ImmutableString>, inside: Inside) {
+    /// A function, whose first word stands next, with the comments before it; it goes to the table.
+    pub(crate) fn function(&self, inside: Inside) {
         let start = self.here();
+        let comments = self.comments();
         let access = if self.skip_keyword(Keyword::Private) {
             FnAccess::Private
         } else {

@@ -4,7 +4,7 @@ use crate::error::{LexError, ParseErrorType};
 use crate::inside::Inside;
 use crate::parser::Parser;
 use rhai_ast::Expr;
-use rhai_base::{Dynamic, Ident, Position, StringMap, Token};
+use rhai_base::{Dynamic, FLOAT, FloatWrapper, Ident, Position, StringMap, Token};
 use syntax_lexer::{Lexeme, Mark, Written};
 
 impl<'a> Parser<'a> {
@@ -13,6 +13,7 @@ impl<'a> Parser<'a> {
         let pos = self.here();
         let literal = match self.lexeme() {
             Lexeme::Integer(value) => Expr::IntegerConstant(value, pos),
+            Lexeme::Float(letters) => Expr::FloatConstant(self.float(letters, pos)?, pos),
             Lexeme::Bool(value) => Expr::BoolConstant(value, pos),
             Lexeme::Char(value) => Expr::CharConstant(value, pos),
             Lexeme::Text(text) => Expr::StringConstant(self.written(text)?, pos),
@@ -27,13 +28,26 @@ impl<'a> Parser<'a> {
         Some(literal)
     }
 
-    /// Refuses a negated integer that has no positive one.
-    pub(crate) fn too_large(&self, pos: Position) -> Option<Expr> {
-        if let Some(letters) = self.owned("-") {
-            let input = LexError::MalformedNumber(letters);
-            self.refuse(ParseErrorType::BadInput(input), pos);
+    /// The float of these letters, which stand there.
+    fn float(&self, letters: &str, pos: Position) -> Option<FloatWrapper> {
+        let digits = self.without_marks(letters)?;
+        match fast_float::parse::<FLOAT, _>(digits.as_str().as_bytes()) {
+            Ok(value) => Some(FloatWrapper::new(value)),
+            Err(_) => {
+                let input = LexError::MalformedNumber(self.owned(letters)?);
+                self.refuse(ParseErrorType::BadInput(input), pos);
+                None
+            }
         }
-        None
+    }
+
+    /// The letters of a number without the `_` between them.
+    fn without_marks(&self, letters: &str) -> Option<String> {
+        let mut digits = self.owned("")?;
+        for part in letters.split('_') {
+            self.made(digits.push_str(part));
+        }
+        Some(digits)
     }
 
     /// An array, whose bracket stands next.

@@ -211,7 +211,10 @@ impl<'a> Parser<'a> {
     /// Refuses a literal over which no loop goes.
     pub(crate) fn want_iterable(&self, expr: &Option<Expr>) {
         if let Some(expr) = expr {
-            if let Some(kind @ ("bool" | "()" | "an integer" | "a character")) = kind_of(expr) {
+            if let Some(
+                kind @ ("bool" | "()" | "an integer" | "a float" | "a character"),
+            ) = kind_of(expr)
+            {
                 self.refuse(
                     ParseErrorType::MismatchedType("what a loop goes over", kind),
                     expr.start_position(),
@@ -227,6 +230,7 @@ pub(crate) fn kind_of(expr: &Expr) -> Option<&'static str> {
         Expr::Unit(_) => Some("()"),
         Expr::BoolConstant(..) => Some("bool"),
         Expr::IntegerConstant(..) => Some("an integer"),
+        Expr::FloatConstant(..) => Some("a float"),
         Expr::CharConstant(..) => Some("a character"),
         Expr::StringConstant(..) | Expr::InterpolatedString(..) => Some("a text"),
         Expr::Array(..) => Some("an array"),

@@ -50,7 +50,7 @@ impl<'a> Parser<'a> {
             alloc,
             options,
             is_restricted,
-            place: Cell::new(Place::first(text)),
+            place: Cell::new(Place::of_script(text)),
             next: Cell::new(None),
             fault: Cell::new(None),
             doc: Cell::new(None),
@@ -69,12 +69,11 @@ impl<'a> Parser<'a> {
         self.go_on(self.place.get().end());
     }
 
-    /// Refuses the text for what stands next; where that is no word, or a comment that documents nothing, for that.
+    /// Refuses the text for what stands next; where that is no word, for that.
     pub(crate) fn refuse_next(&self, reason: ParseErrorType) {
         let next = self.next();
         match next.lexeme {
             Lexeme::Bad(why, letters) => self.refuse_word(why, letters, next.position),
-            Lexeme::Doc(text) => self.refuse_word(Misread::UnexpectedInput, text, next.position),
             _ => self.refuse(reason, next.position),
         }
     }
@@ -93,7 +92,6 @@ impl<'a> Parser<'a> {
                     letters,
                     "it is kept for later",
                 ),
-                Misread::FloatNotSupported => LexError::FloatNotSupported(letters),
             };
             self.refuse(ParseErrorType::BadInput(reason), position);
         }
@@ -227,14 +225,15 @@ impl<'a> Parser<'a> {
         }
     }
 
-    /// What stands next in the text, but for what documents the script, which is kept.
+    /// What stands next in the text, but for comments; what documents the script is kept.
     fn read(&self) -> Lexed<'a> {
         let mut next = next_lexeme(self.place.get());
         for _ in 0..self.most() {
-            let Lexeme::ScriptDoc(line) = next.lexeme else {
-                break;
-            };
-            self.document(line);
+            match next.lexeme {
+                Lexeme::ScriptDoc(line) => self.document(line),
+                Lexeme::Doc(_) => {}
+                _ => break,
+            }
             next = next_lexeme(next.behind);
         }
         next

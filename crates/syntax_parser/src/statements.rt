@@ -26,10 +26,7 @@ impl<'a> Parser<'a> {
             Lexeme::Mark(Mark::SemiColon) => {
                 self.take();
             }
-            Lexeme::Doc(_) => self.documented(inside),
-            Lexeme::Keyword(Keyword::Fn | Keyword::Private) => {
-                self.function(Vec::new(self.alloc), inside);
-            }
+            Lexeme::Keyword(Keyword::Fn | Keyword::Private) => self.function(inside),
             Lexeme::Keyword(Keyword::Export) => {
                 let export = self.export(inside);
                 self.listed(statements, export);
@@ -105,10 +102,6 @@ impl<'a> Parser<'a> {
         match self.lexeme() {
             Lexeme::Mark(Mark::LeftBrace) => self.block_statement(self.block(inside)),
             Lexeme::Keyword(keyword) if !self.is_restricted => self.begun_with(keyword, inside),
-            Lexeme::Doc(_) => {
-                self.refuse(ParseErrorType::WrongDocComment, self.here());
-                None
-            }
             _ => self.expression_or_assignment(inside),
         }
     }

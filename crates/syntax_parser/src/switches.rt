@@ -170,8 +170,11 @@ impl<'a> Parser<'a> {
             self.refuse(ParseErrorType::ExprExpected("a literal"), start);
             return None;
         }
-        let value = self.made(expr.get_literal_value(self.alloc))?;
-        Some(Item::Value(value?, start))
+        let value = self.made(expr.get_literal_value(self.alloc))??;
+        if value.holds_float() {
+            self.refuse(ParseErrorType::WrongSwitchFloatCase, start);
+        }
+        Some(Item::Value(value, start))
     }
 
     /// The condition of an arm, `true` where none is written.
@@ -267,6 +270,7 @@ fn is_literal(expr: &Expr) -> bool {
         Expr::Unit(_)
         | Expr::BoolConstant(..)
         | Expr::IntegerConstant(..)
+        | Expr::FloatConstant(..)
         | Expr::CharConstant(..)
         | Expr::StringConstant(..) => true,
         Expr::Array(items, _) => are_literals(items.get().as_slice()),

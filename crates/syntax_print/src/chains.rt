@@ -107,7 +107,8 @@ fn literal_of(expr: &Expr) -> Option<Literal> {
         Expr::StringConstant(..) | Expr::InterpolatedString(..) => Some(Literal::Text),
         Expr::Array(..) => Some(Literal::Array),
         Expr::Map(..) => Some(Literal::Map),
-        Expr::BoolConstant(..) | Expr::CharConstant(..) | Expr::Unit(_) => Some(Literal::Other),
+        Expr::BoolConstant(..) | Expr::CharConstant(..) => Some(Literal::Other),
+        Expr::FloatConstant(..) | Expr::Unit(_) => Some(Literal::Other),
         _ => None,
     }
 }
@@ -118,7 +119,9 @@ fn literal_of_value(value: &Dynamic) -> Option<Literal> {
         Dynamic::Str(_) => Some(Literal::Text),
         Dynamic::Array(_) => Some(Literal::Array),
         Dynamic::Map(_) => Some(Literal::Map),
-        Dynamic::Unit | Dynamic::Bool(_) | Dynamic::Char(_) => Some(Literal::Other),
+        Dynamic::Unit | Dynamic::Bool(_) | Dynamic::Float(_) | Dynamic::Char(_) => {
+            Some(Literal::Other)
+        }
         Dynamic::FnPtr(_) | Dynamic::Range(..) | Dynamic::RangeInclusive(..) => None,
     }
 }

@@ -42,6 +42,9 @@ pub enum Unspelled {
     /// An expression behind `continue`.
     #[error("an expression behind continue")]
     ContinueWith,
+    /// A float that is infinite, or no number.
+    #[error("a float without a literal")]
+    Float,
     /// A key of a `switch` without a literal.
     #[error("a key without a literal")]
     Key,

@@ -48,6 +48,7 @@ impl<'t> Printer<'t> {
             Expr::BoolConstant(true, _) => self.put("true"),
             Expr::BoolConstant(false, _) => self.put("false"),
             Expr::IntegerConstant(value, _) => self.integer(*value),
+            Expr::FloatConstant(value, pos) => self.float(*value, *pos),
             Expr::CharConstant(value, _) => self.character(*value),
             Expr::StringConstant(text, _) => self.quoted(text.as_str()),
             Expr::InterpolatedString(parts, _) => self.text(parts.get().as_slice(), inside),

@@ -3,7 +3,7 @@
 use crate::closures::has_constants;
 use crate::words::{is_anonymous, stands_before};
 use rhai_ast::{Expr, ExprQueries, FnCallExpr, Stmt};
-use rhai_base::{Dynamic, Position, Token};
+use rhai_base::{Dynamic, FloatWrapper, Position, Token};
 
 /// What stands around an expression.
 #[derive(Clone, Copy, Debug, PartialEq, Eq)]
@@ -163,6 +163,7 @@ fn is_contains(call: &FnCallExpr) -> bool {
 fn shape_of(expr: &Expr) -> Shape {
     match expr {
         Expr::IntegerConstant(value, _) if is_negative(*value) => Shape::Negative,
+        Expr::FloatConstant(value, _) if has_sign(*value) => Shape::Negative,
         Expr::DynamicConstant(value, _) => shape_of_value(value.get()),
         Expr::FnCall(call, pos) => shape_of_call(call.get(), *pos),
         Expr::And(..) => Shape::List(AND),
@@ -187,6 +188,7 @@ fn shape_of_block(statements: &[Stmt]) -> Shape {
 fn shape_of_value(value: &Dynamic) -> Shape {
     match value {
         Dynamic::Int(value) if is_negative(*value) => Shape::Negative,
+        Dynamic::Float(value) if has_sign(*value) => Shape::Negative,
         Dynamic::Range(..) | Dynamic::RangeInclusive(..) => Shape::Infix(RANGE),
         Dynamic::FnPtr(pointer) if !pointer.is_curried() && is_anonymous(pointer.fn_name()) => {
             Shape::Closure
@@ -198,6 +200,11 @@ fn shape_of_value(value: &Dynamic) -> Shape {
 /// Whether an integer has a sign. The least one is written by its bits.
 fn is_negative(value: i64) -> bool {
     value < 0 && value != i64::MIN
+}
+
+/// Whether a float has a sign, as a zero may.
+fn has_sign(value: FloatWrapper) -> bool {
+    value.bits() >= 0x8000_0000_0000_0000
 }
 
 fn shape_of_call(call: &FnCallExpr, pos: Position) -> Shape {
@@ -234,12 +241,12 @@ pub(crate) fn stands_in_braces(index: &Expr) -> bool {
 }
 
 /// Whether what an expression is may not show, so that it is written as a block: a literal of another kind than what
-/// should stand there, the integer of a sign, since with the sign it is a literal, and an index that is a bool.
+/// should stand there, the number of a sign, since with the sign it is a literal, and an index that is a bool.
 fn stands_in_block(expr: &Expr, need: Need) -> bool {
     match need {
         Need::Condition | Need::BoolOperand(..) => is_literal(expr) && !is_bool(expr),
         Need::Iterable => is_flat(expr),
-        Need::Signed => is_integer(expr),
+        Need::Signed => is_number(expr),
         Need::Index => stands_in_braces(expr),
         Need::BaseInBlock => true,
         _ => false,
@@ -288,10 +295,12 @@ fn is_bool(expr: &Expr) -> bool {
     }
 }
 
-fn is_integer(expr: &Expr) -> bool {
+fn is_number(expr: &Expr) -> bool {
     match expr {
-        Expr::IntegerConstant(..) => true,
-        Expr::DynamicConstant(value, _) => matches!(value.get(), Dynamic::Int(_)),
+        Expr::IntegerConstant(..) | Expr::FloatConstant(..) => true,
+        Expr::DynamicConstant(value, _) => {
+            matches!(value.get(), Dynamic::Int(_) | Dynamic::Float(_))
+        }
         _ => false,
     }
 }
@@ -305,6 +314,7 @@ fn is_literal(expr: &Expr) -> bool {
         ),
         Expr::BoolConstant(..)
         | Expr::IntegerConstant(..)
+        | Expr::FloatConstant(..)
         | Expr::CharConstant(..)
         | Expr::StringConstant(..)
         | Expr::InterpolatedString(..)
@@ -332,10 +342,15 @@ fn is_flat(expr: &Expr) -> bool {
     match expr {
         Expr::DynamicConstant(value, _) => matches!(
             value.get(),
-            Dynamic::Unit | Dynamic::Bool(_) | Dynamic::Int(_) | Dynamic::Char(_)
+            Dynamic::Unit
+                | Dynamic::Bool(_)
+                | Dynamic::Int(_)
+                | Dynamic::Float(_)
+                | Dynamic::Char(_)
         ),
         Expr::BoolConstant(..)
         | Expr::IntegerConstant(..)
+        | Expr::FloatConstant(..)
         | Expr::CharConstant(..)
         | Expr::Unit(_) => true,
         _ => false,

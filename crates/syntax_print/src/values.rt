@@ -4,7 +4,7 @@ use crate::error::Unspelled;
 use crate::inside::Inside;
 use crate::printer::Printer;
 use crate::words::{is_anonymous, is_name};
-use rhai_base::{Dynamic, FnPtr, INT, Position, StringMap};
+use rhai_base::{Dynamic, FloatWrapper, FnPtr, INT, Position, StringMap};
 use std::fmt::Write;
 
 /// What a value stands in.
@@ -28,6 +28,7 @@ impl<'t> Printer<'t> {
             Dynamic::Bool(true) => self.put("true"),
             Dynamic::Bool(false) => self.put("false"),
             Dynamic::Int(value) => self.integer(*value),
+            Dynamic::Float(value) => self.float(*value, holder.position),
             Dynamic::Char(value) => self.character(*value),
             Dynamic::Str(text) => self.quoted(text.as_str()),
             Dynamic::Array(items) => {
@@ -116,6 +117,17 @@ impl<'t> Printer<'t> {
     pub(crate) fn integer(&self, value: INT) {
         if value == INT::MIN {
             return self.put("0x8000000000000000");
+        }
+        let mut digits = self.no_text();
+        let written = write!(digits, "{value}");
+        self.made(written);
+        self.put(digits.as_str());
+    }
+
+    /// A float by the fewest digits that are read as it. What is infinite, or no number, has none.
+    pub(crate) fn float(&self, value: FloatWrapper, pos: Position) {
+        if !value.value().is_finite() {
+            return self.refuse(Unspelled::Float, pos);
         }
         let mut digits = self.no_text();
         let written = write!(digits, "{value}");

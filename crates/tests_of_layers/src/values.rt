@@ -236,7 +236,7 @@ fn measure(range: &RangeCase, said: &Said) {
     said.word_if(range.index() != usize::MAX, "of both");
 }
 
-/// Says which of the values behind a range stand in it; of an integer also by its number.
+/// Says which of the values behind a range stand in it; of an integer and a float also by its number.
 fn holds(values: &[Dynamic], said: &Said) {
     if let [first, others @ ..] = values {
         let range = range(first, said);
@@ -253,6 +253,9 @@ fn say_held(range: &RangeCase, value: &Dynamic, said: &Said) {
     }
     if let Dynamic::Int(integer) = value {
         said.word_if(range.contains_int(*integer), "(integer)");
+    }
+    if let Dynamic::Float(float) = value {
+        said.word_if(range.contains_float(float.value()), "(float)");
     }
 }
 

@@ -94,14 +94,14 @@ module _ (h h' : Host) where
 
 -- ---- scripts
 
-module _ (engine : Engine) (h h' : Host) (modules : (x : Text) → h.module_value x ≡ h'.module_value x) (paths : (p : Text) → h.module_of p ≡ h'.module_of p) (lends : Bool) where
+module _ (engine : Engine) (h h' : Host) (modules : (x : Text) → h.module_value x ≡ h'.module_value x) (paths : (p : Text) → h.module_of p ≡ h'.module_of p) (texts : (v : Value) → h.text v ≡ h'.text v) (lends : Bool) where
   module _ (keys : List Key) where
     same_body_call : (env env' : Env) → SameEnv h h' env env' → (o : Option Function) (a : ScriptCall) (scope : List ScopeEntry) (calls : List HostCall) (t : ℕ) → Same h h' (call_body lends (w h h' engine keys) env o a scope calls t) (call_body lends (w' h h' engine keys) env' o a scope calls t)
     same_body_call env env' g None a scope calls t q = refl
     same_body_call env env' g (Some f) a scope calls t q =
         let s = entered lends f a scope calls in
         same_turn h h' t s _ (λ s1 t1. run_all (w' h h' engine keys) env' (body_acts (w h h' engine keys) f.body) s1 t1) (λ t1. same_run_all h h' engine keys env env' g (body_acts (w h h' engine keys) f.body) s t1) q
-        ∙ ap (λ p. with_turn t s (λ s1 t1. run_all (w' h h' engine keys) env' p s1 t1)) (same_body engine keys h h' modules paths f.body)
+        ∙ ap (λ p. with_turn t s (λ s1 t1. run_all (w' h h' engine keys) env' p s1 t1)) (same_body engine keys h h' modules paths texts f.body)
 
     same_invoke : (fs : List Function) (d : ℕ) (a : ScriptCall) (scope : List ScopeEntry) (calls : List HostCall) (t : ℕ) → Same h h' (invoke_at lends (w h h' engine keys) fs d a scope calls t) (invoke_at lends (w' h h' engine keys) fs d a scope calls t)
     same_invoke fs zero a scope calls t q = refl
@@ -115,13 +115,13 @@ module _ (engine : Engine) (h h' : Host) (modules : (x : Text) → h.module_valu
     same_run_at p AtStatements scope n q =
         let s : Store = record { scope = scope; this = None; calls = [] } in
         same_run_all h h' engine keys _ _ (same_env p.functions n) (body_acts (w h h' engine keys) p.statements) s n q
-        ∙ ap (λ q1. run_all (w' h h' engine keys) (env_at lends (w' h h' engine keys) p.functions n) q1 s n) (same_body engine keys h h' modules paths p.statements)
+        ∙ ap (λ q1. run_all (w' h h' engine keys) (env_at lends (w' h h' engine keys) p.functions n) q1 s n) (same_body engine keys h h' modules paths texts p.statements)
     same_run_at p (AtFunction k this vs) scope n q = same_body_call _ _ (same_env p.functions n) (function_of p.functions k) _ [] [] n q
 
 -- the whole script, by the calls that its run reports
 pub same_script : (engine : Engine) (h h' : Host) (p : Script) (e : EntryPoint) (scope : List ScopeEntry) (n : ℕ) → AgreeOn h h' (calls_of (run_script engine h p e scope n)) → run_script engine h p e scope n ≡ run_script engine h' p e scope n
 unfolding run_script
-same_script engine h h' p e scope n g = same_run_at engine h h' g.modules g.paths true (map key_of p.functions) p e scope n g.answers
+same_script engine h h' p e scope n g = same_run_at engine h h' g.modules g.paths g.texts true (map key_of p.functions) p e scope n g.answers
 
 report_calls : (e : EntryPoint) (r : Result) → (report_of e r).calls ≡ calls_of r
 report_calls e (At o s t) = refl

@@ -12,6 +12,7 @@ pub mod PureActs
 pub mod PureTrees
 pub mod PurityLaws
 pub mod ModuleLaws
+pub mod Floatless
 pub mod LiteralLaws
 pub mod FaultLaws
 pub mod Rows

@@ -2,22 +2,23 @@
 use Rattle.std.proofs.Common.{◌≡◌, ℕ, Bool, true, false, not, cond, ◌&&◌, List, [], ◌∷◌, Option, Some, None, refl, sym, ap, ◌∙◌, subst}
 use Rattle.std.specs.Prelude.{codes, if◌then◌else◌, ◌==◌}
 use Rattle.std.proofs.lemmas.Slice.Eq.{bytes_eq-Decides}
-use Rattle.rhai_base.specs.Value.{Text, Value, UnitV, TextV, ArrayV, PointerV, no_values, item, values, same_text}
+use Rattle.rhai_base.specs.Value.{Text, Value, UnitV, TextV, ArrayV, PointerV, no_values, item, values, same_text, text_of}
 use Rattle.rhai_base.specs.Operators.{Operator, Plus, UpTo, Through, symbol, arity, computed, binary}
 use Rattle.base_tokens.specs.Names.{is_valid_name}
 use Rattle.theory_meaning.specs.Act.{World, Store, Gives, Ended, At, Act, Env, and_then, run}
 use Rattle.theory_meaning.specs.ActForms.{give, value_then, choose}
-use Rattle.theory_meaning.specs.Constants.{array_value, map_value, joined_value, value_and, entry_and, constant_value, constant_values, constant_entries, range_end, range_literal, pointer_literal, named_value, call_value, literal_value, constant_for}
+use Rattle.theory_meaning.specs.Constants.{array_value, map_value, joined_value, text_constants, value_and, entry_and, constant_value, constant_values, constant_entries, range_end, range_literal, pointer_literal, named_value, call_value, literal_value, constant_for}
 use Rattle.theory_meaning.specs.Engine.{or_else}
-use Rattle.theory_meaning.specs.Control.{texts_joined}
+use Rattle.theory_meaning.specs.Control.{text_in, texts_joined}
 use Rattle.theory_meaning.specs.Core as core
 use Rattle.theory_meaning.specs.Desugar.{core_expr, core_exprs, core_pairs, call_of}
 use Rattle.theory_meaning.specs.Faults.{TreeFault, ◌then◌, unless, map_fault, faultless, IsWellFormedExpr, AreWellFormedExprs}
 use Rattle.theory_meaning.specs.Laws.{LiteralLaw, ConstantLaw, IsNamed}
-use Rattle.theory_meaning.specs.Meaning.{act, with_args, with_pairs}
+use Rattle.theory_meaning.specs.Meaning.{text, act, with_args, with_pairs}
 use Rattle.theory_meaning.specs.Shape.{is_none, is_unit, is_map, has_token, keys, are_distinct, are_among}
-use Rattle.theory_meaning.specs.Tree.{CallToken, NoToken, OfOperator, OfOther, Callee, Expr, DynamicConstant, BoolConstant, IntegerConstant, CharConstant, StringConstant, UnitConstant, InterpolatedString, ArrayOf, MapOf, FnCall, Exprs, no_exprs, expr, count_exprs, Pairs, no_pairs, pair}
+use Rattle.theory_meaning.specs.Tree.{CallToken, NoToken, OfOperator, OfOther, Callee, Expr, DynamicConstant, BoolConstant, IntegerConstant, FloatConstant, CharConstant, StringConstant, UnitConstant, InterpolatedString, ArrayOf, MapOf, FnCall, Exprs, no_exprs, expr, count_exprs, Pairs, no_pairs, pair}
 use Rattle.theory_meaning.specs.Walk.{Around, over_pairs}
+use Rattle.theory_meaning.proofs.Floatless.{text_parts, texts_constant}
 use Rattle.theory_meaning.proofs.PureTrees.{no, split}
 
 abbrev or_this : {A : Type 0} → A → Option A → A
@@ -65,9 +66,9 @@ module _ (w : World) (env : Env) (loop : Bool) where
   array_runs es v (Some vs) k h s t = k vs refl _ s t ∙ ap (λ z. At (Ended (Gives z)) s t) (some_is _ v h)
   array_runs es v None k h s t = no_value h
 
-  text_runs : (es : Exprs) (v : Value) (o : Option (List Value)) → ((vs : List Value) → o ≡ Some vs → ArgsRun es vs) → joined_value o ≡ Some v → (s : Store) (t : ℕ) → run w env (with_args w (core_exprs loop es) (λ vs. give (TextV (texts_joined vs)))) s t ≡ At (Ended (Gives v)) s t
-  text_runs es v (Some vs) k h s t = k vs refl _ s t ∙ ap (λ z. At (Ended (Gives z)) s t) (some_is _ v h)
-  text_runs es v None k h s t = no_value h
+  text_runs : (es : Exprs) (v : Value) (o : Option (List Value)) → ((vs : List Value) → o ≡ Some vs → ArgsRun es vs) → ((vs : List Value) → o ≡ Some vs → texts_joined (text_in w.host) vs ≡ texts_joined text_of vs) → joined_value o ≡ Some v → (s : Store) (t : ℕ) → run w env (with_args w (core_exprs loop es) (text w)) s t ≡ At (Ended (Gives v)) s t
+  text_runs es v (Some vs) k q h s t = k vs refl _ s t ∙ ap (λ z. At (Ended (Gives (TextV z))) s t) (q vs refl) ∙ ap (λ z. At (Ended (Gives z)) s t) (some_is _ v h)
+  text_runs es v None k q h s t = no_value h
 
   map_runs : (b : Bool) → b ≡ true → (ps : Pairs) (v : Value) (o : Option (List (Text × Value))) → ((vs : List (Text × Value)) → o ≡ Some vs → PairsRun ps vs) → map_value o ≡ Some v → (s : Store) (t : ℕ) → run w env (act w (cond b (core.MapOf (core_pairs loop ps)) core.Ill)) s t ≡ At (Ended (Gives v)) s t
   map_runs true g ps v (Some vs) k h s t = k vs refl _ s t ∙ ap (λ z. At (Ended (Gives z)) s t) (some_is _ v h)
@@ -103,10 +104,11 @@ module _ (w : World) (env : Env) (loop : Bool) where
     constant_runs a (DynamicConstant u) g v h s t = own_runs (is_unit u) u (not_true (is_unit u) (passed _ _ g.0)) s t ∙ ap (λ z. At (Ended (Gives z)) s t) (some_is u v h)
     constant_runs a (BoolConstant b) g v h s t = ap (λ z. At (Ended (Gives z)) s t) (some_is _ v h)
     constant_runs a (IntegerConstant n) g v h s t = ap (λ z. At (Ended (Gives z)) s t) (some_is _ v h)
+    constant_runs a (FloatConstant x) g v h s t = ap (λ z. At (Ended (Gives z)) s t) (some_is _ v h)
     constant_runs a (CharConstant c) g v h s t = ap (λ z. At (Ended (Gives z)) s t) (some_is _ v h)
     constant_runs a (StringConstant x) g v h s t = ap (λ z. At (Ended (Gives z)) s t) (some_is _ v h)
     constant_runs a UnitConstant g v h s t = ap (λ z. At (Ended (Gives z)) s t) (some_is _ v h)
-    constant_runs a (InterpolatedString es) g v h s t = text_runs es v (constant_values es) (λ vs q. args_run _ es g.1 vs q) h s t
+    constant_runs a (InterpolatedString es) g v h s t = text_runs es v (text_constants es) (λ vs q. args_run _ es g.1 vs (text_parts es vs q).1) (λ vs q. texts_constant w.host es vs q) h s t
     constant_runs a (ArrayOf es) g v h s t = array_runs es v (constant_values es) (λ vs q. args_run _ es g.1 vs q) h s t
     constant_runs a (MapOf ps template) g v h s t = map_runs (is_map template ps) (template_fits ps template g.0) ps v (constant_entries ps) (λ vs q. pairs_run _ ps g.1 vs q) h s t
     constant_runs a _ g v h s t = no_value h
@@ -225,6 +227,7 @@ module _ (w : World) (env : Env) (loop : Bool) where
   literal_runs a (DynamicConstant u) g v h s t = constant_runs a (DynamicConstant u) g v h s t
   literal_runs a (BoolConstant b) g v h s t = constant_runs a (BoolConstant b) g v h s t
   literal_runs a (IntegerConstant n) g v h s t = constant_runs a (IntegerConstant n) g v h s t
+  literal_runs a (FloatConstant x) g v h s t = constant_runs a (FloatConstant x) g v h s t
   literal_runs a (CharConstant c) g v h s t = constant_runs a (CharConstant c) g v h s t
   literal_runs a (StringConstant x) g v h s t = constant_runs a (StringConstant x) g v h s t
   literal_runs a UnitConstant g v h s t = constant_runs a UnitConstant g v h s t

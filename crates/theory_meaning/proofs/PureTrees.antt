@@ -11,7 +11,7 @@ use Rattle.theory_meaning.specs.Laws.{Gave}
 use Rattle.theory_meaning.specs.Meaning.{module_known, module_at, exporting, act, with_args, with_pairs, both, either, first_some, arm_acts, loop, deed, acts, wanted_value}
 use Rattle.theory_meaning.specs.Queries.{is_literally, ArmPurity, is_pure_arm, listed_arms_are_pure, answer_is_pure, default_is_pure, table_is_pure, is_pure_expr, are_pure_exprs, are_pure_pairs, arm_purities, is_pure, are_pure, is_internally_pure, is_internally_pure_expr, are_internally_pure, is_no_export, exports_nothing}
 use Rattle.theory_meaning.specs.Shape.{is_unit, is_map, is_table, catch_name}
-use Rattle.theory_meaning.specs.Tree.{SwitchCase, SwitchRange, SwitchTable, Expr, DynamicConstant, BoolConstant, IntegerConstant, CharConstant, StringConstant, UnitConstant, InterpolatedString, ArrayOf, MapOf, Variable, ThisPtr, Property, MethodCall, BlockExpr, FnCall, Dot, Index, And, Or, Coalesce, Exprs, no_exprs, expr, Pairs, no_pairs, pair, Arms, no_arms, arm, Stmt, Noop, If, Switch, While, Do, For, Var, Block, TryCatch, ExprStmt, Import, Export, Stmts, no_stmts, stmt}
+use Rattle.theory_meaning.specs.Tree.{SwitchCase, SwitchRange, SwitchTable, Expr, DynamicConstant, BoolConstant, IntegerConstant, FloatConstant, CharConstant, StringConstant, UnitConstant, InterpolatedString, ArrayOf, MapOf, Variable, ThisPtr, Property, MethodCall, BlockExpr, FnCall, Dot, Index, And, Or, Coalesce, Exprs, no_exprs, expr, Pairs, no_pairs, pair, Arms, no_arms, arm, Stmt, Noop, If, Switch, While, Do, For, Var, Block, TryCatch, ExprStmt, Import, Export, Stmts, no_stmts, stmt}
 use Rattle.theory_meaning.specs.Plain.{all_true}
 use Rattle.theory_meaning.specs.Walk.{over_expr, over_stmt, over_stmts, arm_at, arms_of_cases, arms_of_ranges}
 use Rattle.theory_meaning.proofs.PureActs.{Pure, PureList, Calm, CalmList, calm_of, calm_read, calm_only, calm_line, calm_named, p_give, p_fail, p_bind, p_choose, p_if, p_loop, l_only, l_named, l_line, p_round, p_for_each, p_for_count, p_try}
@@ -154,6 +154,7 @@ module _ (w : World) where
     pure_expr l (DynamicConstant v) h = constant_or_ill (is_unit v) v
     pure_expr l (BoolConstant b) h = p_give w _
     pure_expr l (IntegerConstant n) h = p_give w _
+    pure_expr l (FloatConstant x) h = p_give w _
     pure_expr l (CharConstant c) h = p_give w _
     pure_expr l (StringConstant t) h = p_give w _
     pure_expr l UnitConstant h = p_give w _
@@ -298,6 +299,7 @@ module _ (w : World) where
       expr_inside l (DynamicConstant v) h q = g.of_pure (pure_expr l (DynamicConstant v) h)
       expr_inside l (BoolConstant b) h q = g.of_pure (p_give w _)
       expr_inside l (IntegerConstant n) h q = g.of_pure (p_give w _)
+      expr_inside l (FloatConstant x) h q = g.of_pure (p_give w _)
       expr_inside l (CharConstant c) h q = g.of_pure (p_give w _)
       expr_inside l (StringConstant t) h q = g.of_pure (p_give w _)
       expr_inside l UnitConstant h q = g.of_pure (p_give w _)

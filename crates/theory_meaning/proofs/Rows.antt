@@ -92,15 +92,16 @@ split cs ds here = ([], sym (append-nil cs))
 split cs ds (more c p) = let q = split (cs ++ c ∷ []) ds p in (c ∷ q.0, q.1 ∙ append_assoc cs (c ∷ []) q.0)
 
 -- the rows of some calls answer each of them as the host did
-pub rows_agree : (h : Host) (us : List ModuleValue) (ms : List ModulePath) → ((x : Text) → h.module_value x ≡ module_value_of us x) → ((p : Text) → h.module_of p ≡ module_in ms p) → (calls : List HostCall) → AgreeOn h (host_of (rows_of h [] calls) us ms) calls
+pub rows_agree : (h : Host) (us : List ModuleValue) (ms : List ModulePath) → ((x : Text) → h.module_value x ≡ module_value_of us x) → ((p : Text) → h.module_of p ≡ module_in ms p) → (calls : List HostCall) → AgreeOn h (record (host_of (rows_of h [] calls) us ms) { text = h.text }) calls
 rows_agree h us ms modules paths calls = record {
   modules = modules;
   paths = paths;
+  texts = λ v. refl;
   answers = λ past c b.
       let q = split (past ++ c ∷ []) calls b in
       row_answers h [] past q.0 c past refl ∙ ap (λ cs. answer_of (rows_of h [] cs) past c) (sym (append_assoc past (c ∷ []) q.0) ∙ sym q.1);
 }
 
 -- so each run is that with a host by rows
-pub run_by_rows : (engine : Engine) (h : Host) (us : List ModuleValue) (ms : List ModulePath) → ((x : Text) → h.module_value x ≡ module_value_of us x) → ((q : Text) → h.module_of q ≡ module_in ms q) → (p : Script) (e : EntryPoint) (scope : List ScopeEntry) (n : ℕ) → run_script engine h p e scope n ≡ run_script engine (host_of (rows_of h [] (calls_of (run_script engine h p e scope n))) us ms) p e scope n
+pub run_by_rows : (engine : Engine) (h : Host) (us : List ModuleValue) (ms : List ModulePath) → ((x : Text) → h.module_value x ≡ module_value_of us x) → ((q : Text) → h.module_of q ≡ module_in ms q) → (p : Script) (e : EntryPoint) (scope : List ScopeEntry) (n : ℕ) → run_script engine h p e scope n ≡ run_script engine (record (host_of (rows_of h [] (calls_of (run_script engine h p e scope n))) us ms) { text = h.text }) p e scope n
 run_by_rows engine h us ms modules paths p e scope n = same_script engine h _ p e scope n (rows_agree h us ms modules paths _)

@@ -1,20 +1,20 @@
 -- What a script means doesn't depend on what a host answers: worlds that differ in that alone make the same acts of it.
-use Rattle.std.proofs.Common.{◌≡◌, Bool, true, false, List, [], ◌∷◌, Option, Some, None, refl}
-use Rattle.rhai_base.specs.Value.{Text, Value, UnitV, BoolV, TextV, PointerV}
+use Rattle.std.proofs.Common.{◌≡◌, Bool, true, false, cond, List, [], ◌∷◌, Option, Some, None, refl}
+use Rattle.rhai_base.specs.Value.{Text, Value, UnitV, BoolV, TextV, PointerV, holds_float, text_of}
 use Rattle.rhai_base.specs.Operators.{Operator}
 use Rattle.theory_meaning.specs.Engine.{Engine}
 use Rattle.theory_meaning.specs.Act.{Leaves, Host, Key, Root, World, Act, Stop, Then, Read, Resolve, Loop, Scoped, Acts, Do, Named, Finish}
 use Rattle.theory_meaning.specs.ActForms.{give, unit, ◌>>=◌, value_then, each_value, choose, if_true, of_constant}
 use Rattle.theory_meaning.specs.Calls.{assigned, Word, TypeOf, IsShared, Fn, Curry, CallFn, word, curried, call_pointer, call_word, within, called}
 use Rattle.theory_meaning.specs.Chains.{Access, OfProperty, OfIndex, OfMethod, property, index, method_key, to_method, value_alone, method, applied, unless_unit, set_at, assign_last, assign_root}
-use Rattle.theory_meaning.specs.Control.{switch_on, round, while_guarded, do_loop, for_all, try_of}
+use Rattle.theory_meaning.specs.Control.{text_in, texts_joined, switch_on, round, while_guarded, do_loop, for_all, try_of}
 use Rattle.theory_meaning.specs.Core.{Callee, OnOperator, Qualified, ByName, Expr, Ill, Constant, InterpolatedString, ArrayOf, MapOf, Variable, ModuleVariable, ModuleOf, ThisPtr, BlockExpr, FnCall, Chain, And, Or, Coalesce, Exprs, no_exprs, expr, Pairs, no_pairs, pair, Base, OnPlace, OnValue, Step, IllStep, Property, Index, Method, Steps, last, more, Target, IllTarget, Nowhere, ToRoot, ToPart, Guard, Always, When, Arms, no_arms, arm, Deed, IllDeed, Noop, If, Switch, While, Do, For, Assignment, Block, TryCatch, Evaluate, Discard, Leave, Stmt, Var, Does, Stmts, no_stmts, stmt}
-use Rattle.theory_meaning.specs.Meaning.{exit, module_known, module_at, exporting, act, with_args, with_pairs, both, either, first_some, at_base, access, steps, assign_steps, assign, arm_acts, loop, deed, line, acts}
+use Rattle.theory_meaning.specs.Meaning.{text, exit, module_known, module_at, exporting, act, with_args, with_pairs, both, either, first_some, at_base, access, steps, assign_steps, assign, arm_acts, loop, deed, line, acts}
 use Rattle.theory_meaning.specs.Places.{Current, without_place, at_root, refreshed}
 use Rattle.theory_meaning.specs.Run.{body_acts}
 use Rattle.theory_meaning.specs.Shape.{is_unit}
 
-module _ (engine : Engine) (functions : List Key) (h h' : Host) (modules : (x : Text) → h.module_value x ≡ h'.module_value x) (paths : (p : Text) → h.module_of p ≡ h'.module_of p) where
+module _ (engine : Engine) (functions : List Key) (h h' : Host) (modules : (x : Text) → h.module_value x ≡ h'.module_value x) (paths : (p : Text) → h.module_of p ≡ h'.module_of p) (texts : (v : Value) → h.text v ≡ h'.text v) where
   abbrev w : World
   w = record { engine = engine; host = h; functions = functions }
 
@@ -68,11 +68,17 @@ module _ (engine : Engine) (functions : List Key) (h h' : Host) (modules : (x : 
   same_module (TextV p) = λ i. module_known (paths p i)
   same_module _ = refl
 
+  same_text : (v : Value) → text_in h v ≡ text_in h' v
+  same_text v = λ i. cond (holds_float v) (texts v i) (text_of v)
+
+  same_joined : (vs : List Value) → text w vs ≡ text w' vs
+  same_joined vs = λ i. give (TextV (texts_joined (λ v. same_text v i) vs))
+
   mutual
     pub same_act : (e : Expr) → act w e ≡ act w' e
     same_act Ill = refl
     same_act (Constant v) = refl
-    same_act (InterpolatedString es) = same_args es _ _ (λ vs. refl)
+    same_act (InterpolatedString es) = same_args es _ _ same_joined
     same_act (ArrayOf es) = same_args es _ _ (λ vs. refl)
     same_act (MapOf ps) = same_pairs ps _ _ (λ vs. refl)
     same_act (Variable x) = refl

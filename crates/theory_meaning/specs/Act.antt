@@ -40,11 +40,12 @@ pub data Answer : Type 0 where
   Answers : Value → Option Value → Answer
   AnswersThrow : Value → Answer
 
--- module_of: the name of the module of a path
+-- module_of: the name of the module of a path; text: how texts write a value that holds a float
 pub record Host : Type 0 where
   pub answer : List HostCall → HostCall → Answer
   pub module_value : Text → Option Value
   pub module_of : Text → Option Text
+  pub text : Value → Text
 
 -- a script function's name, number of parameters and receiver type
 pub record Key : Type 0 where

@@ -1,6 +1,6 @@
 -- Constants and literals, their values, and the constant for a value.
-use Rattle.std.specs.Prelude.{Bool, true, false, List, [], ◌∷◌, Option, Some, None, codes, is_some, if◌then◌else◌}
-use Rattle.rhai_base.specs.Value.{Text, Value, UnitV, BoolV, IntV, CharV, TextV, ArrayV, MapV, PointerV, no_values, values, same_text}
+use Rattle.std.specs.Prelude.{Bool, true, false, not, ◌&&◌, List, [], ◌∷◌, Option, Some, None, codes, is_some, if◌then◌else◌}
+use Rattle.rhai_base.specs.Value.{Text, Value, UnitV, BoolV, IntV, FloatV, CharV, TextV, ArrayV, MapV, PointerV, no_values, values, same_text, holds_float, text_of}
 use Rattle.rhai_base.specs.Operators.{Operator, UpTo, Through, Computed, NoEntry, Is, Overflows, binary}
 use Rattle.base_tokens.specs.Names.{is_valid_name}
 use Rattle.theory_meaning.specs.ActForms.{truth}
@@ -8,7 +8,7 @@ use Rattle.theory_meaning.specs.Control.{texts_joined}
 use Rattle.theory_meaning.specs.Elements.{fields_of}
 use Rattle.theory_meaning.specs.Engine.{or_else}
 use Rattle.theory_meaning.specs.Shape.{is_none}
-use Rattle.theory_meaning.specs.Tree.{NoToken, Expr, DynamicConstant, BoolConstant, IntegerConstant, CharConstant, StringConstant, UnitConstant, InterpolatedString, ArrayOf, MapOf, FnCall, Exprs, no_exprs, expr, Pairs, no_pairs, pair}
+use Rattle.theory_meaning.specs.Tree.{NoToken, Expr, DynamicConstant, BoolConstant, IntegerConstant, FloatConstant, CharConstant, StringConstant, UnitConstant, InterpolatedString, ArrayOf, MapOf, FnCall, Exprs, no_exprs, expr, Pairs, no_pairs, pair}
 
 -- ---- constants
 
@@ -21,8 +21,12 @@ map_value (Some vs) = Some (MapV (fields_of vs))
 map_value None = None
 
 abbrev pub joined_value : Option (List Value) → Option Value
-joined_value (Some vs) = Some (TextV (texts_joined vs))
+joined_value (Some vs) = Some (TextV (texts_joined text_of vs))
 joined_value None = None
+
+abbrev pub where_floatless : Bool → Option (List Value) → Option (List Value)
+where_floatless true o = o
+where_floatless false o = None
 
 abbrev pub value_and : Option Value → Option (List Value) → Option (List Value)
 value_and (Some v) (Some vs) = Some (v ∷ vs)
@@ -32,16 +36,34 @@ abbrev pub entry_and : Text → Option Value → Option (List (Text × Value)) �
 entry_and k (Some v) (Some vs) = Some ((k, v) ∷ vs)
 entry_and k _ _ = None
 
--- the value of a constant; None: no constant
+-- a constant whose parts are no floats and hold none
+abbrev mutual
+  pub is_floatless : Expr → Bool
+  is_floatless (DynamicConstant v) = not (holds_float v)
+  is_floatless (FloatConstant x) = false
+  is_floatless (ArrayOf es) = are_floatless es
+  is_floatless (MapOf ps template) = pairs_are_floatless ps
+  is_floatless _ = true
+
+  pub are_floatless : Exprs → Bool
+  are_floatless no_exprs = true
+  are_floatless (expr e es) = is_floatless e && are_floatless es
+
+  pub pairs_are_floatless : Pairs → Bool
+  pairs_are_floatless no_pairs = true
+  pairs_are_floatless (pair k e ps) = is_floatless e && pairs_are_floatless ps
+
+-- The value of a constant; None: no constant. A text in which a part holds a float is the host's to write.
 abbrev mutual
   pub constant_value : Expr → Option Value
   constant_value (DynamicConstant v) = Some v
   constant_value (BoolConstant b) = Some (BoolV b)
   constant_value (IntegerConstant n) = Some (IntV n)
+  constant_value (FloatConstant x) = Some (FloatV x)
   constant_value (CharConstant c) = Some (CharV c)
   constant_value (StringConstant t) = Some (TextV t)
   constant_value UnitConstant = Some UnitV
-  constant_value (InterpolatedString es) = joined_value (constant_values es)
+  constant_value (InterpolatedString es) = joined_value (where_floatless (are_floatless es) (constant_values es))
   constant_value (ArrayOf es) = array_value (constant_values es)
   constant_value (MapOf ps template) = map_value (constant_entries ps)
   constant_value _ = None
@@ -53,6 +75,10 @@ abbrev mutual
   pub constant_entries : Pairs → Option (List (Text × Value))
   constant_entries no_pairs = Some []
   constant_entries (pair k e ps) = entry_and k (constant_value e) (constant_entries ps)
+
+-- the values of a text's parts, where all are constants that hold no float
+abbrev pub text_constants : Exprs → Option (List Value)
+text_constants es = where_floatless (are_floatless es) (constant_values es)
 
 abbrev pub is_constant : Expr → Bool
 is_constant e = is_some (constant_value e)
@@ -83,6 +109,7 @@ abbrev pub constant_for : Value → Expr
 constant_for UnitV = UnitConstant
 constant_for (BoolV b) = BoolConstant b
 constant_for (IntV n) = IntegerConstant n
+constant_for (FloatV x) = FloatConstant x
 constant_for (CharV c) = CharConstant c
 constant_for (TextV t) = StringConstant t
 constant_for (PointerV f no_values) = pointer_call f

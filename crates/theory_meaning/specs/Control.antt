@@ -1,15 +1,21 @@
 -- Loops, `switch` and `try` over the acts of their parts.
 use Rattle.std.specs.Prelude.{ℕ, zero, suc, ◌^◌, Bool, true, false, cond, ◌&&◌, List, [], ◌∷◌, ◌++◌, Option, Some, None, ℤ, pos, negsuc, ◌+ℤ◌, ◌-ℤ◌, nat_lt, slice_get, int_lt, int_le}
-use Rattle.rhai_base.specs.Value.{Text, Value, IntV, ArrayV, RangeV, RangeInclusiveV, items, same, is_hashable, text_of}
-use Rattle.theory_meaning.specs.Act.{IsVariable, Throws, Again, Ending, Gives, Leaves, WrongKind, CounterTooLarge, Act, Stop, Fail, Then, Turn, Loop, Scoped, Acts, Only, Named}
+use Rattle.std.specs.Float.Ieee
+use Rattle.rhai_base.specs.Value.{Text, Value, IntV, FloatV, ArrayV, RangeV, RangeInclusiveV, items, same, holds_float, is_hashable, text_of}
+use Rattle.rhai_base.specs.Floats.{float_of, as_float, between}
+use Rattle.theory_meaning.specs.Act.{IsVariable, Throws, Again, Ending, Gives, Leaves, WrongKind, CounterTooLarge, Host, Act, Stop, Fail, Then, Turn, Loop, Scoped, Acts, Only, Named}
 use Rattle.theory_meaning.specs.Tree.{IntRange, ExclusiveInt, InclusiveInt, SwitchTable, SwitchCase, SwitchRange}
 use Rattle.theory_meaning.specs.Shape.{is_unit}
 use Rattle.theory_meaning.specs.ActForms.{unit, choose, if_true, ◌>>=◌, on_throw, end_round, again_then}
 
-unfoldable pub texts_joined : List Value → Text
+-- how texts write a value: as the host says where it holds a float
+abbrev pub text_in : Host → Value → Text
+text_in h v = cond (holds_float v) (h.text v) (text_of v)
+
+unfoldable pub texts_joined : (Value → Text) → List Value → Text
 unfolding text_of
-texts_joined [] = []
-texts_joined (v ∷ vs) = text_of v ++ texts_joined vs
+texts_joined f [] = []
+texts_joined f (v ∷ vs) = f v ++ texts_joined f vs
 
 -- ---- `switch`
 
@@ -20,6 +26,9 @@ pub record ArmActs : Type 0 where
 abbrev pub holds : IntRange → Value → Bool
 holds (ExclusiveInt a b) (IntV n) = int_le a n && int_lt n b
 holds (InclusiveInt a b) (IntV n) = int_le a n && int_le n b
+-- a float by the floats that are nearest to the ends; a range without integers holds none
+holds (ExclusiveInt a b) (FloatV x) = Ieee.le (as_float a) (float_of x) && Ieee.lt (float_of x) (as_float b)
+holds (InclusiveInt a b) (FloatV x) = int_le a b && between a b (float_of x)
 holds r v = false
 
 abbrev pub ranges_with : List SwitchRange → Value → List ℕ

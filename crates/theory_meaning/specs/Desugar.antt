@@ -1,6 +1,6 @@
 -- From trees to their core: each test of a node is made here, once.
 use Rattle.std.specs.Prelude.{ℕ, Bool, true, false, not, cond, ◌&&◌, List, [], ◌∷◌, map, Option, Some, None}
-use Rattle.rhai_base.specs.Value.{Text, UnitV, BoolV, IntV, CharV, TextV}
+use Rattle.rhai_base.specs.Value.{Text, UnitV, BoolV, IntV, FloatV, CharV, TextV}
 use Rattle.theory_meaning.specs.Act.{EntryKind, IsVariable, IsConstant, IsAlias, IsExport, Root, OfName, OfThis}
 use Rattle.theory_meaning.specs.Calls.{within}
 use Rattle.theory_meaning.specs.Tree as tree
@@ -93,6 +93,7 @@ abbrev mutual
   core_expr loop (tree.DynamicConstant v) = cond (is_unit v) Ill (Constant v)
   core_expr loop (tree.BoolConstant b) = Constant (BoolV b)
   core_expr loop (tree.IntegerConstant n) = Constant (IntV n)
+  core_expr loop (tree.FloatConstant x) = Constant (FloatV x)
   core_expr loop (tree.CharConstant c) = Constant (CharV c)
   core_expr loop (tree.StringConstant t) = Constant (TextV t)
   core_expr loop tree.UnitConstant = Constant UnitV

@@ -1,6 +1,6 @@
 -- A host by rows.
 use Rattle.std.specs.Prelude.{Bool, true, false, ◌&&◌, List, [], ◌∷◌, ◌++◌, Option, Some, None, if◌then◌else◌}
-use Rattle.rhai_base.specs.Value.{Text, Value, UnitV, same, same_items, same_text, values}
+use Rattle.rhai_base.specs.Value.{Text, Value, UnitV, same, same_items, same_text, type_name, values}
 use Rattle.theory_meaning.specs.Act.{HostCall, Answer, Answers, Host}
 
 pub record Row : Type 0 where
@@ -45,8 +45,9 @@ abbrev pub module_in : List ModulePath → Text → Option Text
 module_in [] p = None
 module_in (m ∷ ms) p = if same_text m.path p then Some m.name else module_in ms p
 
+-- texts write a value that holds a float by its type's name
 abbrev pub host_of : List Row → List ModuleValue → List ModulePath → Host
-host_of rows vs ms = record { answer = answer_of rows; module_value = module_value_of vs; module_of = module_in ms }
+host_of rows vs ms = record { answer = answer_of rows; module_value = module_value_of vs; module_of = module_in ms; text = type_name }
 
 -- the rows of a run's calls: each with those before it, and with the answer of a host; past: the calls before all of them
 abbrev pub rows_of : Host → List HostCall → List HostCall → List Row

@@ -7,7 +7,7 @@ use Rattle.theory_meaning.specs.Core.{ExitKind, Breaking, Continuing, Returning,
 use Rattle.theory_meaning.specs.ActForms.{give, unit, choose, if_true, ◌>>=◌, then_line, of_constant}
 use Rattle.theory_meaning.specs.Calls.{within, called}
 use Rattle.theory_meaning.specs.Chains.{Access, OfProperty, OfIndex, OfMethod, applied, unless_unit, assign_last, assign_root}
-use Rattle.theory_meaning.specs.Control.{texts_joined, ArmActs, switch_on, round, while_guarded, do_loop, for_all, try_of}
+use Rattle.theory_meaning.specs.Control.{text_in, texts_joined, ArmActs, switch_on, round, while_guarded, do_loop, for_all, try_of}
 use Rattle.theory_meaning.specs.Elements.{fields_of}
 use Rattle.theory_meaning.specs.Places.{Current, without_place, at_root, refreshed}
 use Rattle.theory_meaning.specs.Shape.{is_unit}
@@ -37,14 +37,14 @@ abbrev pub exporting : Bool → Text → Value → Acts → Acts
 exporting true x v p = Named x IsExport v p
 exporting false x v p = p
 
-abbrev pub text : List Value → Act
-text vs = give (TextV (texts_joined vs))
+abbrev pub text : World → List Value → Act
+text w vs = give (TextV (texts_joined (text_in w.host) vs))
 
 abbrev mutual
   pub act : World → Expr → Act
   act w Ill = Fail WrongKind
   act w (Constant v) = give v
-  act w (InterpolatedString es) = with_args w es text
+  act w (InterpolatedString es) = with_args w es (text w)
   act w (ArrayOf es) = with_args w es (λ vs. give (ArrayV (values vs)))
   act w (MapOf ps) = with_pairs w ps (λ vs. give (MapV (fields_of vs)))
   act w (Variable x) = Read (OfName x)

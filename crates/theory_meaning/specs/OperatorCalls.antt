@@ -13,6 +13,7 @@ abbrev pub CallsOperator : Node → Type 0
 CallsOperator (OfExpr (tree.DynamicConstant v)) = Unit {0}
 CallsOperator (OfExpr (tree.BoolConstant b)) = Unit {0}
 CallsOperator (OfExpr (tree.IntegerConstant n)) = Unit {0}
+CallsOperator (OfExpr (tree.FloatConstant x)) = Unit {0}
 CallsOperator (OfExpr (tree.CharConstant c)) = Unit {0}
 CallsOperator (OfExpr (tree.StringConstant t)) = Unit {0}
 CallsOperator (OfExpr tree.UnitConstant) = Unit {0}

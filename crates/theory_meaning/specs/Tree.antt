@@ -54,6 +54,8 @@ mutual
     DynamicConstant : Value → Expr
     BoolConstant : Bool → Expr
     IntegerConstant : ℤ → Expr
+    -- by its 64 bits
+    FloatConstant : ℕ → Expr
     CharConstant : ℕ → Expr
     StringConstant : Text → Expr
     UnitConstant : Expr

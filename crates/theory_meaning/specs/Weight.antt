@@ -1,6 +1,6 @@
 -- The weight of a tree, which each rewrite lowers.
 use Rattle.std.specs.Prelude.{ℕ, ◌+◌, List, [], ◌∷◌, length, Option, Some, None}
-use Rattle.theory_meaning.specs.Tree.{SwitchCase, SwitchTable, Expr, DynamicConstant, BoolConstant, IntegerConstant, CharConstant, StringConstant, UnitConstant, Variable, MethodCall, BlockExpr, FnCall, Dot, Index, Exprs, Stmt, Noop, If, Switch, ExprStmt, Share, Stmts}
+use Rattle.theory_meaning.specs.Tree.{SwitchCase, SwitchTable, Expr, DynamicConstant, BoolConstant, IntegerConstant, FloatConstant, CharConstant, StringConstant, UnitConstant, Variable, MethodCall, BlockExpr, FnCall, Dot, Index, Exprs, Stmt, Noop, If, Switch, ExprStmt, Share, Stmts}
 use Rattle.theory_meaning.specs.Walk.{Node, OfExpr, OfStmt, total, over_expr, over_exprs, over_stmt, over_stmts}
 
 abbrev pub expr_own_weight : Expr → ℕ
@@ -8,6 +8,7 @@ expr_own_weight UnitConstant = 1
 expr_own_weight (DynamicConstant v) = 2
 expr_own_weight (BoolConstant b) = 2
 expr_own_weight (IntegerConstant n) = 2
+expr_own_weight (FloatConstant x) = 2
 expr_own_weight (CharConstant c) = 2
 expr_own_weight (StringConstant t) = 2
 expr_own_weight (Variable ns x) = 8

@@ -1,7 +1,7 @@
 -- Short forms for worked runs: trees and hosts that are written by hand.
 use Rattle.std.specs.Prelude.{ℕ, Bool, false, List, [], ◌∷◌, ◌++◌, None, pos, codes}
 use Prim.Native.String.{String}
-use Rattle.rhai_base.specs.Value.{Text, Value, UnitV, IntV, TextV, text_of}
+use Rattle.rhai_base.specs.Value.{Text, Value, UnitV, IntV, TextV, type_name, text_of}
 use Rattle.rhai_base.specs.Operators.{Operator, symbol, computed}
 use Rattle.theory_meaning.specs.Act.{HostCall, Host, Answer, Answers, AnswersThrow}
 use Rattle.theory_meaning.specs.Desugar.{core_script}
@@ -27,10 +27,10 @@ unfolding text_of
 joins c = elim c.arguments [ [] ↦ Answers UnitV None | v ∷ vs ↦ elim vs [ [] ↦ Answers UnitV None | w ∷ ws ↦ Answers (TextV (text_of v ++ text_of w)) None ] ]
 
 abbrev pub joining : Host
-joining = record { answer = λ past c. joins c; module_value = λ x. None; module_of = λ p. None }
+joining = record { answer = λ past c. joins c; module_value = λ x. None; module_of = λ p. None; text = type_name }
 
 abbrev pub throwing : Host
-throwing = record { answer = λ past c. AnswersThrow (TextV c.name); module_value = λ x. None; module_of = λ p. None }
+throwing = record { answer = λ past c. AnswersThrow (TextV c.name); module_value = λ x. None; module_of = λ p. None; text = type_name }
 
 abbrev pub overriding : Text → List Text → Bool → Engine
 overriding f types fast = record nothing_set { overrides = record { name = f; types = types } ∷ []; fast_operators = fast }

@@ -1,17 +1,17 @@
 -- Acts that run alike but for names.
-use Rattle.std.proofs.Common.{◌≡◌, ℕ, zero, suc, ◌+◌, ◌-◌, ℤ, Bool, true, false, not, cond, ◌&&◌, List, [], ◌∷◌, ◌++◌, length, Option, Some, None, refl, sym, subst}
+use Rattle.std.proofs.Common.{◌≡◌, ℕ, zero, suc, ◌+◌, ◌-◌, ℤ, Bool, true, false, not, cond, ◌&&◌, List, [], ◌∷◌, ◌++◌, length, Option, Some, None, refl, sym, ap, ◌∙◌, subst}
 use Rattle.std.specs.Prelude.{option_map, codes, slice_get, ◌||◌, if◌then◌else◌, pos, ◌+ℤ◌, ◌^◌, nat_lt}
-use Rattle.rhai_base.specs.Value.{Text, Value, TextV, same_text, type_name, text_of, PointerV, values}
+use Rattle.rhai_base.specs.Value.{Text, Value, TextV, same_text, type_name, holds_float, text_of, PointerV, values}
 use Rattle.theory_meaning.specs.Engine.{Engine, constant_named, has_override, is_open, built_in, has_entry, assigning, mapped_name, mapped_type_name}
 use Rattle.theory_meaning.specs.Act.{EntryKind, IsConstant, ScopeEntry, is_constant, is_name, HostCall, Answer, Host, Key, World, Store, Stuck, IsStuck, Unbound, WriteToConstant, UnboundThis, Again, Ending, Leaves, Root, OfName, OfThis, ScriptCall, Act, Stop, Fail, Then, Turn, Read, Write, Resolve, AskHost, Invoke, Loop, Scoped, Acts, Only, Do, Named, Finish, Env, found, resolved, read, read_this, write_at, write, write_this, rounds, run, run_all, IsVariable, WrongKind, NoPlace, UnknownModule, CounterTooLarge, IsExport}
-use Rattle.theory_naming.specs.Naming.{OptionOf, both_none, both_some, ListOf, both_empty, both_more, Like, unit_like, bool_like, int_like, char_like, text_like, array_like, map_like, pointer_like, range_like, inclusive_like, Likes, MaybeLike, EntryLike, entry_like, HostName, CallLike, call_like, AnswerLike, answers_like, throws_like, HostLike, StoreLike, ExitLike, returns_like, breaks_like, continues_like, throw_like, again_like, EndingLike, gives_like, leaves_like, ended_like, halted_like, ResultLike, at_like, KeyLike, ScriptCallLike, script_call_like, as_it_is, as_a_function, key_like, ComputedLike, no_entry_like, is_like, overflows_like, CurrentLike, current_like, AccessLike, of_property_like, of_index_like, of_method_like, CalleeLike, operator_like, qualified_like, by_name_like, IsFn, Total, none_like, no_fields_like, PairLike, named_like, ExprLike, ill_like, constant_like, interpolated_like, array_of_like, map_of_like, variable_like, module_variable_like, module_of_like, this_like, block_expr_like, call_expr_like, fn_like, chain_like, and_like, or_like, coalesce_like, ExprsLike, no_exprs_like, expr_like, PairsLike, no_pairs_like, pair_like, BaseLike, on_place_like, on_value_like, StepLike, ill_step_like, property_like, index_like, method_like, StepsLike, last_like, more_like, TargetLike, ill_target_like, nowhere_like, to_root_like, to_part_like, GuardLike, always_like, when_like, ArmsLike, no_arms_like, arm_like, unlisted_like, DeedLike, ill_deed_like, noop_like, if_deed_like, switch_like, while_like, do_like, for_like, assignment_like, block_like, try_like, evaluate_like, discard_like, leave_like, StmtLike, var_like, does_like, StmtsLike, no_stmts_like, stmt_like}
-use Rattle.theory_naming.proofs.Values.{length_kept, append_like, if_like, map_both, type_kept, types_kept, unit_kept, truth_kept, items_like, values_like, element_like, entry_kept, along_like, with_along_like, character_like, bit_like, chosen_kept, same_kept, with_entries_like}
+use Rattle.theory_naming.specs.Naming.{OptionOf, both_none, both_some, ListOf, both_empty, both_more, Like, unit_like, bool_like, int_like, float_like, char_like, text_like, array_like, map_like, pointer_like, range_like, inclusive_like, Likes, MaybeLike, EntryLike, entry_like, HostName, CallLike, call_like, AnswerLike, answers_like, throws_like, HostLike, StoreLike, ExitLike, returns_like, breaks_like, continues_like, throw_like, again_like, EndingLike, gives_like, leaves_like, ended_like, halted_like, ResultLike, at_like, KeyLike, ScriptCallLike, script_call_like, as_it_is, as_a_function, key_like, ComputedLike, no_entry_like, is_like, overflows_like, CurrentLike, current_like, AccessLike, of_property_like, of_index_like, of_method_like, CalleeLike, operator_like, qualified_like, by_name_like, IsFn, Total, none_like, no_fields_like, PairLike, named_like, ExprLike, ill_like, constant_like, interpolated_like, array_of_like, map_of_like, variable_like, module_variable_like, module_of_like, this_like, block_expr_like, call_expr_like, fn_like, chain_like, and_like, or_like, coalesce_like, ExprsLike, no_exprs_like, expr_like, PairsLike, no_pairs_like, pair_like, BaseLike, on_place_like, on_value_like, StepLike, ill_step_like, property_like, index_like, method_like, StepsLike, last_like, more_like, TargetLike, ill_target_like, nowhere_like, to_root_like, to_part_like, GuardLike, always_like, when_like, ArmsLike, no_arms_like, arm_like, unlisted_like, DeedLike, ill_deed_like, noop_like, if_deed_like, switch_like, while_like, do_like, for_like, assignment_like, block_like, try_like, evaluate_like, discard_like, leave_like, StmtLike, var_like, does_like, StmtsLike, no_stmts_like, stmt_like}
+use Rattle.theory_naming.proofs.Values.{float_kept, length_kept, append_like, if_like, map_both, type_kept, types_kept, unit_kept, truth_kept, items_like, values_like, element_like, entry_kept, along_like, with_along_like, character_like, bit_like, chosen_kept, same_kept, with_entries_like}
 use Rattle.base_tokens.specs.Names.{is_valid_name}
 use Rattle.rhai_base.specs.Operators.{Operator, Computed, NoEntry, symbol, computed, is_range}
 use Rattle.theory_meaning.specs.ActForms.{give, unit, throw, value_then, ◌>>=◌, each_value, then_line, choose, truth, branch, if_true, on_throw, end_round, again_then, of_constant, answered, ask_host, ask_method}
 use Rattle.theory_meaning.specs.Calls.{of_table, operate, assigned, pointer_to, curried, has_key, key, call_named, call_pointer, Word, ToHost, TypeOf, IsShared, Fn, Curry, CallFn, NoWord, word, call_word, within, called}
 use Rattle.theory_meaning.specs.Chains.{Access, or_throw, ask_for, property, index, after_method, method_key, to_method, value_alone, method, applied, unless_unit, set_by_host, set_element, set_property, set_index, set_at, assign_last, assign_root}
-use Rattle.theory_meaning.specs.Control.{texts_joined, ArmActs, try_arm, first_arm, answer_of, default_of, chosen, switch_on, round, while_guarded, do_loop, counted, for_each, for_count, for_all, named, end_branch, try_of}
+use Rattle.theory_meaning.specs.Control.{text_in, texts_joined, ArmActs, try_arm, first_arm, answer_of, default_of, chosen, switch_on, round, while_guarded, do_loop, counted, for_each, for_count, for_all, named, end_branch, try_of}
 use Rattle.theory_meaning.specs.Core.{Callee, ByName, ExitKind, Breaking, Continuing, Returning, Throwing, Expr, Exprs, Pairs, Base, Step, Steps, Target, Guard, Arms, Deed, Stmt, Stmts}
 use Rattle.theory_meaning.specs.Run.{body_acts}
 use Rattle.theory_meaning.specs.Meaning.{exit, wanted_value, text, module_known, module_at, exporting, act, with_args, with_pairs, both, either, first_some, at_base, access, steps, assign_steps, assign, arm_acts, loop, deed, line, acts}
@@ -237,6 +237,7 @@ module _ (N : Text → Text → Type 0) (engine : Engine) (known : (x : Text) �
       r_any_pointer all unit_like = r_fail WrongKind
       r_any_pointer all (bool_like x) = r_fail WrongKind
       r_any_pointer all (int_like x) = r_fail WrongKind
+      r_any_pointer all (float_like x) = r_fail WrongKind
       r_any_pointer all (char_like x) = r_fail WrongKind
       r_any_pointer all (array_like x) = r_fail WrongKind
       r_any_pointer all (map_like x) = r_fail WrongKind
@@ -249,6 +250,7 @@ module _ (N : Text → Text → Type 0) (engine : Engine) (known : (x : Text) �
       r_curried unit_like q = r_fail WrongKind
       r_curried (bool_like x) q = r_fail WrongKind
       r_curried (int_like x) q = r_fail WrongKind
+      r_curried (float_like x) q = r_fail WrongKind
       r_curried (char_like x) q = r_fail WrongKind
       r_curried (text_like x) q = r_fail WrongKind
       r_curried (array_like x) q = r_fail WrongKind
@@ -267,6 +269,7 @@ module _ (N : Text → Text → Type 0) (engine : Engine) (known : (x : Text) �
       r_call_pointer b unit_like q = r_fail WrongKind
       r_call_pointer b (bool_like x) q = r_fail WrongKind
       r_call_pointer b (int_like x) q = r_fail WrongKind
+      r_call_pointer b (float_like x) q = r_fail WrongKind
       r_call_pointer b (char_like x) q = r_fail WrongKind
       r_call_pointer b (text_like x) q = r_fail WrongKind
       r_call_pointer b (array_like x) q = r_fail WrongKind
@@ -332,6 +335,7 @@ module _ (N : Text → Text → Type 0) (engine : Engine) (known : (x : Text) �
       r_property p q unit_like f f' g = r_ask_for (as_it_is p.getter) unit_like both_empty f f' g
       r_property p q (bool_like x) f f' g = r_ask_for (as_it_is p.getter) (bool_like x) both_empty f f' g
       r_property p q (int_like x) f f' g = r_ask_for (as_it_is p.getter) (int_like x) both_empty f f' g
+      r_property p q (float_like x) f f' g = r_ask_for (as_it_is p.getter) (float_like x) both_empty f f' g
       r_property p q (char_like x) f f' g = r_ask_for (as_it_is p.getter) (char_like x) both_empty f f' g
       r_property p q (text_like x) f f' g = r_ask_for (as_it_is p.getter) (text_like x) both_empty f f' g
       r_property p q (array_like x) f f' g = r_ask_for (as_it_is p.getter) (array_like x) both_empty f f' g
@@ -348,6 +352,7 @@ module _ (N : Text → Text → Type 0) (engine : Engine) (known : (x : Text) �
       r_index q (bool_like x) z f f' g = r_ask_for (as_it_is _) (bool_like x) (both_more z both_empty) f f' g
       r_index q (int_like x) unit_like f f' g = r_ask_for (as_it_is _) (int_like x) (both_more unit_like both_empty) f f' g
       r_index q (int_like x) (bool_like z) f f' g = r_ask_for (as_it_is _) (int_like x) (both_more (bool_like z) both_empty) f f' g
+      r_index q (int_like x) (float_like z) f f' g = r_ask_for (as_it_is _) (int_like x) (both_more (float_like z) both_empty) f f' g
       r_index q (int_like x) (char_like z) f f' g = r_ask_for (as_it_is _) (int_like x) (both_more (char_like z) both_empty) f f' g
       r_index q (int_like x) (text_like z) f f' g = r_ask_for (as_it_is _) (int_like x) (both_more (text_like z) both_empty) f f' g
       r_index q (int_like x) (array_like z) f f' g = r_ask_for (as_it_is _) (int_like x) (both_more (array_like z) both_empty) f f' g
@@ -355,9 +360,11 @@ module _ (N : Text → Text → Type 0) (engine : Engine) (known : (x : Text) �
       r_index q (int_like x) (pointer_like m z) f f' g = r_ask_for (as_it_is _) (int_like x) (both_more (pointer_like m z) both_empty) f f' g
       r_index q (int_like x) (range_like z u) f f' g = r_ask_for (as_it_is _) (int_like x) (both_more (range_like z u) both_empty) f f' g
       r_index q (int_like x) (inclusive_like z u) f f' g = r_ask_for (as_it_is _) (int_like x) (both_more (inclusive_like z u) both_empty) f f' g
+      r_index q (float_like x) z f f' g = r_ask_for (as_it_is _) (float_like x) (both_more z both_empty) f f' g
       r_index q (char_like x) z f f' g = r_ask_for (as_it_is _) (char_like x) (both_more z both_empty) f f' g
       r_index q (text_like x) unit_like f f' g = r_ask_for (as_it_is _) (text_like x) (both_more unit_like both_empty) f f' g
       r_index q (text_like x) (bool_like z) f f' g = r_ask_for (as_it_is _) (text_like x) (both_more (bool_like z) both_empty) f f' g
+      r_index q (text_like x) (float_like z) f f' g = r_ask_for (as_it_is _) (text_like x) (both_more (float_like z) both_empty) f f' g
       r_index q (text_like x) (char_like z) f f' g = r_ask_for (as_it_is _) (text_like x) (both_more (char_like z) both_empty) f f' g
       r_index q (text_like x) (text_like z) f f' g = r_ask_for (as_it_is _) (text_like x) (both_more (text_like z) both_empty) f f' g
       r_index q (text_like x) (array_like z) f f' g = r_ask_for (as_it_is _) (text_like x) (both_more (array_like z) both_empty) f f' g
@@ -367,6 +374,7 @@ module _ (N : Text → Text → Type 0) (engine : Engine) (known : (x : Text) �
       r_index q (text_like x) (inclusive_like z u) f f' g = r_ask_for (as_it_is _) (text_like x) (both_more (inclusive_like z u) both_empty) f f' g
       r_index q (array_like x) unit_like f f' g = r_ask_for (as_it_is _) (array_like x) (both_more unit_like both_empty) f f' g
       r_index q (array_like x) (bool_like z) f f' g = r_ask_for (as_it_is _) (array_like x) (both_more (bool_like z) both_empty) f f' g
+      r_index q (array_like x) (float_like z) f f' g = r_ask_for (as_it_is _) (array_like x) (both_more (float_like z) both_empty) f f' g
       r_index q (array_like x) (char_like z) f f' g = r_ask_for (as_it_is _) (array_like x) (both_more (char_like z) both_empty) f f' g
       r_index q (array_like x) (text_like z) f f' g = r_ask_for (as_it_is _) (array_like x) (both_more (text_like z) both_empty) f f' g
       r_index q (array_like x) (array_like z) f f' g = r_ask_for (as_it_is _) (array_like x) (both_more (array_like z) both_empty) f f' g
@@ -377,6 +385,7 @@ module _ (N : Text → Text → Type 0) (engine : Engine) (known : (x : Text) �
       r_index q (map_like x) unit_like f f' g = r_ask_for (as_it_is _) (map_like x) (both_more unit_like both_empty) f f' g
       r_index q (map_like x) (bool_like z) f f' g = r_ask_for (as_it_is _) (map_like x) (both_more (bool_like z) both_empty) f f' g
       r_index q (map_like x) (int_like z) f f' g = r_ask_for (as_it_is _) (map_like x) (both_more (int_like z) both_empty) f f' g
+      r_index q (map_like x) (float_like z) f f' g = r_ask_for (as_it_is _) (map_like x) (both_more (float_like z) both_empty) f f' g
       r_index q (map_like x) (char_like z) f f' g = r_ask_for (as_it_is _) (map_like x) (both_more (char_like z) both_empty) f f' g
       r_index q (map_like x) (array_like z) f f' g = r_ask_for (as_it_is _) (map_like x) (both_more (array_like z) both_empty) f f' g
       r_index q (map_like x) (map_like z) f f' g = r_ask_for (as_it_is _) (map_like x) (both_more (map_like z) both_empty) f f' g
@@ -438,6 +447,7 @@ module _ (N : Text → Text → Type 0) (engine : Engine) (known : (x : Text) �
       r_set_property p j at q unit_like = r_by_host (as_it_is p.setter) (both_more j both_empty) q
       r_set_property p j at q (bool_like x) = r_by_host (as_it_is p.setter) (both_more j both_empty) q
       r_set_property p j at q (int_like x) = r_by_host (as_it_is p.setter) (both_more j both_empty) q
+      r_set_property p j at q (float_like x) = r_by_host (as_it_is p.setter) (both_more j both_empty) q
       r_set_property p j at q (char_like x) = r_by_host (as_it_is p.setter) (both_more j both_empty) q
       r_set_property p j at q (text_like x) = r_by_host (as_it_is p.setter) (both_more j both_empty) q
       r_set_property p j at q (array_like x) = r_by_host (as_it_is p.setter) (both_more j both_empty) q
@@ -451,10 +461,12 @@ module _ (N : Text → Text → Type 0) (engine : Engine) (known : (x : Text) �
       r_set_index j at q unit_like z = r_by_host (as_it_is _) (both_more z (both_more j both_empty)) q
       r_set_index j at q (bool_like x) z = r_by_host (as_it_is _) (both_more z (both_more j both_empty)) q
       r_set_index j at q (int_like x) z = r_by_host (as_it_is _) (both_more z (both_more j both_empty)) q
+      r_set_index j at q (float_like x) z = r_by_host (as_it_is _) (both_more z (both_more j both_empty)) q
       r_set_index j at q (char_like x) z = r_by_host (as_it_is _) (both_more z (both_more j both_empty)) q
       r_set_index j at q (text_like x) z = r_by_host (as_it_is _) (both_more z (both_more j both_empty)) q
       r_set_index j at q (array_like x) unit_like = r_by_host (as_it_is _) (both_more unit_like (both_more j both_empty)) q
       r_set_index j at q (array_like x) (bool_like z) = r_by_host (as_it_is _) (both_more (bool_like z) (both_more j both_empty)) q
+      r_set_index j at q (array_like x) (float_like z) = r_by_host (as_it_is _) (both_more (float_like z) (both_more j both_empty)) q
       r_set_index j at q (array_like x) (char_like z) = r_by_host (as_it_is _) (both_more (char_like z) (both_more j both_empty)) q
       r_set_index j at q (array_like x) (text_like z) = r_by_host (as_it_is _) (both_more (text_like z) (both_more j both_empty)) q
       r_set_index j at q (array_like x) (array_like z) = r_by_host (as_it_is _) (both_more (array_like z) (both_more j both_empty)) q
@@ -465,6 +477,7 @@ module _ (N : Text → Text → Type 0) (engine : Engine) (known : (x : Text) �
       r_set_index j at q (map_like x) unit_like = r_by_host (as_it_is _) (both_more unit_like (both_more j both_empty)) q
       r_set_index j at q (map_like x) (bool_like z) = r_by_host (as_it_is _) (both_more (bool_like z) (both_more j both_empty)) q
       r_set_index j at q (map_like x) (int_like z) = r_by_host (as_it_is _) (both_more (int_like z) (both_more j both_empty)) q
+      r_set_index j at q (map_like x) (float_like z) = r_by_host (as_it_is _) (both_more (float_like z) (both_more j both_empty)) q
       r_set_index j at q (map_like x) (char_like z) = r_by_host (as_it_is _) (both_more (char_like z) (both_more j both_empty)) q
       r_set_index j at q (map_like x) (array_like z) = r_by_host (as_it_is _) (both_more (array_like z) (both_more j both_empty)) q
       r_set_index j at q (map_like x) (map_like z) = r_by_host (as_it_is _) (both_more (map_like z) (both_more j both_empty)) q
@@ -533,6 +546,7 @@ module _ (N : Text → Text → Type 0) (engine : Engine) (known : (x : Text) �
       r_for_all x i r unit_like = r_fail WrongKind
       r_for_all x i r (bool_like z) = r_fail WrongKind
       r_for_all x i r (int_like z) = r_fail WrongKind
+      r_for_all x i r (float_like z) = r_fail WrongKind
       r_for_all x i r (char_like z) = r_fail WrongKind
       r_for_all x i r (text_like z) = r_fail WrongKind
       r_for_all x i r (map_like z) = r_fail WrongKind
@@ -580,13 +594,20 @@ module _ (N : Text → Text → Type 0) (engine : Engine) (known : (x : Text) �
       r_switch : (as' bs : List ArmActs) (t : SwitchTable) → ArmsAt (listed t) as' bs → {v v' : Value} → Like N v v' → R (switch_on as' t v) (switch_on bs t v')
       r_switch as' bs t h {v = v} j = subst (λ is. R (switch_on as' t v) (first_arm bs is (default_of bs t.default))) (chosen_kept t j) (r_first as' bs (listed t) h (chosen t v) (chosen_listed t v) (r_default as' bs (listed t) h t.default (default_listed t)))
 
-      texts_kept : {vs ws : List Value} → Likes N vs ws → texts_joined vs ≡ texts_joined ws
+      text_by : (b : Bool) {v v' : Value} → Like N v v' → holds_float v ≡ b → cond b (h.text v) (text_of v) ≡ cond b (h'.text v') (text_of v')
+      text_by true j q = hosts.text j q
+      text_by false j q = texts _ _ j
+
+      text_in_kept : {v v' : Value} → Like N v v' → text_in h v ≡ text_in h' v'
+      text_in_kept {v = v} {v' = v'} j = text_by (holds_float v) j refl ∙ ap (λ b. cond b (h'.text v') (text_of v')) (float_kept j)
+
+      texts_kept : {vs ws : List Value} → Likes N vs ws → texts_joined (text_in h) vs ≡ texts_joined (text_in h') ws
       unfolding texts_joined
       texts_kept both_empty = refl
-      texts_kept (both_more h k) = λ i. texts _ _ h i ++ texts_kept k i
+      texts_kept (both_more j k) = λ i. text_in_kept j i ++ texts_kept k i
 
-      r_text : {vs ws : List Value} → Likes N vs ws → R (text vs) (text ws)
-      r_text {vs = vs} h = subst (λ t. R (text vs) (give (TextV t))) (texts_kept h) (r_give (text_like (texts_joined vs)))
+      r_text : {vs ws : List Value} → Likes N vs ws → R (text w vs) (text w' ws)
+      r_text {vs = vs} j = subst (λ t. R (text w vs) (give (TextV t))) (texts_kept j) (r_give (text_like (texts_joined (text_in h) vs)))
 
       module_known_like : (o : Option Text) → R (module_known o) (module_known o)
       module_known_like None = r_fail UnknownModule
@@ -597,6 +618,7 @@ module _ (N : Text → Text → Type 0) (engine : Engine) (known : (x : Text) �
       r_module unit_like = r_fail WrongKind
       r_module (bool_like x) = r_fail WrongKind
       r_module (int_like x) = r_fail WrongKind
+      r_module (float_like x) = r_fail WrongKind
       r_module (char_like x) = r_fail WrongKind
       r_module (array_like x) = r_fail WrongKind
       r_module (map_like x) = r_fail WrongKind

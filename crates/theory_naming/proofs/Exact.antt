@@ -3,7 +3,7 @@
 use Rattle.std.proofs.Common.{◌≡◌, List, ◌∷◌, Option, Some, refl, ap}
 use Rattle.rhai_base.specs.Value.{Text, Value, ArrayV, MapV, PointerV, Values, item, Fields, field}
 use Rattle.theory_meaning.specs.Act.{ScopeEntry, HostCall, Store, Exit, Returns, Breaks, Throws, Ending, Gives, Leaves, Outcome, Ended, Result, At}
-use Rattle.theory_naming.specs.Naming.{OptionOf, both_none, both_some, ListOf, both_empty, both_more, Like, unit_like, bool_like, int_like, char_like, text_like, array_like, map_like, pointer_like, range_like, inclusive_like, LikeAll, none_like, item_like, LikeFields, no_fields_like, field_like, EntryLike, entry_like, HostName, as_it_is, as_a_function, CallLike, call_like, StoreLike, ExitLike, returns_like, breaks_like, continues_like, throw_like, again_like, EndingLike, gives_like, leaves_like, OutcomeLike, ended_like, halted_like, ResultLike, at_like}
+use Rattle.theory_naming.specs.Naming.{OptionOf, both_none, both_some, ListOf, both_empty, both_more, Like, unit_like, bool_like, int_like, float_like, char_like, text_like, array_like, map_like, pointer_like, range_like, inclusive_like, LikeAll, none_like, item_like, LikeFields, no_fields_like, field_like, EntryLike, entry_like, HostName, as_it_is, as_a_function, CallLike, call_like, StoreLike, ExitLike, returns_like, breaks_like, continues_like, throw_like, again_like, EndingLike, gives_like, leaves_like, OutcomeLike, ended_like, halted_like, ResultLike, at_like}
 
 pub list_equal : {A : Type 0} {R : A → A → Type 0} → ((a b : A) → R a b → a ≡ b) → (xs ys : List A) → ListOf R xs ys → xs ≡ ys
 list_equal q _ _ both_empty = refl
@@ -19,6 +19,7 @@ module _ (N : Text → Text → Type 0) (equal : (f g : Text) → N f g → f �
     value_equal _ _ unit_like = refl
     value_equal _ _ (bool_like b) = refl
     value_equal _ _ (int_like n) = refl
+    value_equal _ _ (float_like c) = refl
     value_equal _ _ (char_like c) = refl
     value_equal _ _ (text_like t) = refl
     value_equal _ _ (array_like {vs = vs} {ws = ws} h) = ap ArrayV (all_equal vs ws h)

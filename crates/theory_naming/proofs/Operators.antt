@@ -3,7 +3,7 @@ use Rattle.std.proofs.Common.{ℕ, zero, suc, ℤ, pos, negsuc, Bool, true, fals
 use Rattle.std.specs.Prelude.{codes, if◌then◌else◌, int_div, int_rem, ◌+ℤ◌, ◌-ℤ◌, ◌*ℤ◌}
 use Rattle.rhai_base.specs.Value.{Text, Value, IntV, same_text}
 use Rattle.rhai_base.specs.Operators.{Operator, Plus, Minus, Multiply, Divide, Modulo, Power, ShiftLeft, ShiftRight, BitAnd, BitOr, BitXor, EqualTo, NotEqualTo, Less, Greater, LessOrEqual, GreaterOrEqual, UpTo, Through, Not, Negative, Positive, NoEntry, Is, Overflows, fits, checked, quotient, remainder, on_ints, on_bools, on_texts, on_chars, on_different, on_units, on_joined, on_from, on_to, unary, binary, computed}
-use Rattle.theory_naming.specs.Naming.{both_empty, both_more, Like, unit_like, bool_like, int_like, char_like, text_like, array_like, map_like, pointer_like, range_like, inclusive_like, Likes, ComputedLike, no_entry_like, is_like, overflows_like}
+use Rattle.theory_naming.specs.Naming.{both_empty, both_more, Like, unit_like, bool_like, int_like, float_like, char_like, text_like, array_like, map_like, pointer_like, range_like, inclusive_like, Likes, ComputedLike, no_entry_like, is_like, overflows_like}
 
 module _ (N : Text → Text → Type 0) where
   fitting : (b : Bool) (n : ℤ) → ComputedLike N (if b then Is (IntV n) else Overflows) (if b then Is (IntV n) else Overflows)
@@ -269,6 +269,7 @@ module _ (N : Text → Text → Type 0) where
   unary_like Not unit_like = no_entry_like
   unary_like Not (bool_like a) = is_like (bool_like _)
   unary_like Not (int_like a) = no_entry_like
+  unary_like Not (float_like a) = no_entry_like
   unary_like Not (char_like a) = no_entry_like
   unary_like Not (text_like a) = no_entry_like
   unary_like Not (array_like a) = no_entry_like
@@ -282,6 +283,7 @@ module _ (N : Text → Text → Type 0) where
   binary_like op unit_like unit_like = units_like op
   binary_like op unit_like (bool_like b) = by_type (same_text (codes "()") (codes "bool")) op
   binary_like op unit_like (int_like b) = to_like op b
+  binary_like op unit_like (float_like b) = no_entry_like
   binary_like op unit_like (char_like b) = by_type (same_text (codes "()") (codes "char")) op
   binary_like op unit_like (text_like b) = by_type (same_text (codes "()") (codes "string")) op
   binary_like op unit_like (array_like b) = by_type (same_text (codes "()") (codes "array")) op
@@ -292,6 +294,7 @@ module _ (N : Text → Text → Type 0) where
   binary_like op (bool_like a) unit_like = by_type (same_text (codes "bool") (codes "()")) op
   binary_like op (bool_like a) (bool_like b) = bools_like op a b
   binary_like op (bool_like a) (int_like b) = by_type (same_text (codes "bool") (codes "i64")) op
+  binary_like op (bool_like a) (float_like b) = no_entry_like
   binary_like op (bool_like a) (char_like b) = by_type (same_text (codes "bool") (codes "char")) op
   binary_like op (bool_like a) (text_like b) = by_type (same_text (codes "bool") (codes "string")) op
   binary_like op (bool_like a) (array_like b) = by_type (same_text (codes "bool") (codes "array")) op
@@ -302,6 +305,7 @@ module _ (N : Text → Text → Type 0) where
   binary_like op (int_like a) unit_like = from_like op a
   binary_like op (int_like a) (bool_like b) = by_type (same_text (codes "i64") (codes "bool")) op
   binary_like op (int_like a) (int_like b) = ints_like op a b
+  binary_like op (int_like a) (float_like b) = no_entry_like
   binary_like op (int_like a) (char_like b) = by_type (same_text (codes "i64") (codes "char")) op
   binary_like op (int_like a) (text_like b) = by_type (same_text (codes "i64") (codes "string")) op
   binary_like op (int_like a) (array_like b) = by_type (same_text (codes "i64") (codes "array")) op
@@ -309,10 +313,12 @@ module _ (N : Text → Text → Type 0) where
   binary_like op (int_like a) (pointer_like m b) = by_type (same_text (codes "i64") (codes "Fn")) op
   binary_like op (int_like a) (range_like b y) = by_type (same_text (codes "i64") (codes "range")) op
   binary_like op (int_like a) (inclusive_like b y) = by_type (same_text (codes "i64") (codes "range=")) op
+  binary_like op (float_like a) h = no_entry_like
   binary_like op (char_like a) unit_like = by_type (same_text (codes "char") (codes "()")) op
   binary_like op (char_like a) (bool_like b) = by_type (same_text (codes "char") (codes "bool")) op
   binary_like op (char_like a) (int_like b) = by_type (same_text (codes "char") (codes "i64")) op
   binary_like op (char_like a) (char_like b) = chars_like op a b
+  binary_like op (char_like a) (float_like b) = no_entry_like
   binary_like op (char_like a) (text_like b) = joined_like op _
   binary_like op (char_like a) (array_like b) = by_type (same_text (codes "char") (codes "array")) op
   binary_like op (char_like a) (map_like b) = by_type (same_text (codes "char") (codes "map")) op
@@ -322,6 +328,7 @@ module _ (N : Text → Text → Type 0) where
   binary_like op (text_like a) unit_like = by_type (same_text (codes "string") (codes "()")) op
   binary_like op (text_like a) (bool_like b) = by_type (same_text (codes "string") (codes "bool")) op
   binary_like op (text_like a) (int_like b) = by_type (same_text (codes "string") (codes "i64")) op
+  binary_like op (text_like a) (float_like b) = no_entry_like
   binary_like op (text_like a) (char_like b) = joined_like op _
   binary_like op (text_like a) (text_like b) = texts_like op a b
   binary_like op (text_like a) (array_like b) = by_type (same_text (codes "string") (codes "array")) op
@@ -332,6 +339,7 @@ module _ (N : Text → Text → Type 0) where
   binary_like op (array_like a) unit_like = by_type (same_text (codes "array") (codes "()")) op
   binary_like op (array_like a) (bool_like b) = by_type (same_text (codes "array") (codes "bool")) op
   binary_like op (array_like a) (int_like b) = by_type (same_text (codes "array") (codes "i64")) op
+  binary_like op (array_like a) (float_like b) = no_entry_like
   binary_like op (array_like a) (char_like b) = by_type (same_text (codes "array") (codes "char")) op
   binary_like op (array_like a) (text_like b) = by_type (same_text (codes "array") (codes "string")) op
   binary_like op (array_like a) (array_like b) = by_type (same_text (codes "array") (codes "array")) op
@@ -342,6 +350,7 @@ module _ (N : Text → Text → Type 0) where
   binary_like op (map_like a) unit_like = by_type (same_text (codes "map") (codes "()")) op
   binary_like op (map_like a) (bool_like b) = by_type (same_text (codes "map") (codes "bool")) op
   binary_like op (map_like a) (int_like b) = by_type (same_text (codes "map") (codes "i64")) op
+  binary_like op (map_like a) (float_like b) = no_entry_like
   binary_like op (map_like a) (char_like b) = by_type (same_text (codes "map") (codes "char")) op
   binary_like op (map_like a) (text_like b) = by_type (same_text (codes "map") (codes "string")) op
   binary_like op (map_like a) (array_like b) = by_type (same_text (codes "map") (codes "array")) op
@@ -352,6 +361,7 @@ module _ (N : Text → Text → Type 0) where
   binary_like op (pointer_like n a) unit_like = by_type (same_text (codes "Fn") (codes "()")) op
   binary_like op (pointer_like n a) (bool_like b) = by_type (same_text (codes "Fn") (codes "bool")) op
   binary_like op (pointer_like n a) (int_like b) = by_type (same_text (codes "Fn") (codes "i64")) op
+  binary_like op (pointer_like n a) (float_like b) = no_entry_like
   binary_like op (pointer_like n a) (char_like b) = by_type (same_text (codes "Fn") (codes "char")) op
   binary_like op (pointer_like n a) (text_like b) = by_type (same_text (codes "Fn") (codes "string")) op
   binary_like op (pointer_like n a) (array_like b) = by_type (same_text (codes "Fn") (codes "array")) op
@@ -362,6 +372,7 @@ module _ (N : Text → Text → Type 0) where
   binary_like op (range_like a x) unit_like = by_type (same_text (codes "range") (codes "()")) op
   binary_like op (range_like a x) (bool_like b) = by_type (same_text (codes "range") (codes "bool")) op
   binary_like op (range_like a x) (int_like b) = by_type (same_text (codes "range") (codes "i64")) op
+  binary_like op (range_like a x) (float_like b) = no_entry_like
   binary_like op (range_like a x) (char_like b) = by_type (same_text (codes "range") (codes "char")) op
   binary_like op (range_like a x) (text_like b) = by_type (same_text (codes "range") (codes "string")) op
   binary_like op (range_like a x) (array_like b) = by_type (same_text (codes "range") (codes "array")) op
@@ -372,6 +383,7 @@ module _ (N : Text → Text → Type 0) where
   binary_like op (inclusive_like a x) unit_like = by_type (same_text (codes "range=") (codes "()")) op
   binary_like op (inclusive_like a x) (bool_like b) = by_type (same_text (codes "range=") (codes "bool")) op
   binary_like op (inclusive_like a x) (int_like b) = by_type (same_text (codes "range=") (codes "i64")) op
+  binary_like op (inclusive_like a x) (float_like b) = no_entry_like
   binary_like op (inclusive_like a x) (char_like b) = by_type (same_text (codes "range=") (codes "char")) op
   binary_like op (inclusive_like a x) (text_like b) = by_type (same_text (codes "range=") (codes "string")) op
   binary_like op (inclusive_like a x) (array_like b) = by_type (same_text (codes "range=") (codes "array")) op

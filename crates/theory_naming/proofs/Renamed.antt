@@ -3,7 +3,7 @@ use Rattle.std.proofs.Common.{◌≡◌, ℕ, zero, suc, Bool, true, false, not,
 use Rattle.std.specs.Prelude.{codes, nat_lt}
 use Rattle.base_tokens.specs.Names.{are_all}
 use Rattle.std.proofs.lemmas.Slice.Eq.{bytes_eq-Decides}
-use Rattle.rhai_base.specs.Value.{Text, Value, UnitV, BoolV, IntV, CharV, TextV, ArrayV, MapV, PointerV, RangeV, RangeInclusiveV, Values, no_values, item, Fields, no_fields, field, same_text}
+use Rattle.rhai_base.specs.Value.{Text, Value, UnitV, BoolV, IntV, FloatV, CharV, TextV, ArrayV, MapV, PointerV, RangeV, RangeInclusiveV, Values, no_values, item, Fields, no_fields, field, same_text}
 use Rattle.theory_meaning.specs.Act.{Root}
 use Rattle.theory_meaning.specs.Calls.{Word, ToHost, TypeOf, IsShared, Fn, Curry, CallFn, NoWord, word}
 use Rattle.theory_meaning.specs.Core as core
@@ -15,7 +15,7 @@ use Rattle.theory_meaning.specs.Walk.{over_expr, over_exprs, over_pairs, over_ma
 use Rattle.theory_meaning.proofs.PureTrees.{split}
 use Rattle.std.specs.Cmp.{unsigned_Decides}
 use Rattle.theory_naming.proofs.Listed.{first_named, next_named, here_named, later_named, from_first}
-use Rattle.theory_naming.specs.Naming.{Like, unit_like, bool_like, int_like, char_like, text_like, array_like, map_like, pointer_like, range_like, inclusive_like, LikeAll, none_like, item_like, LikeFields, no_fields_like, field_like, CalleeLike, operator_like, qualified_like, by_name_like, IsFn, Total, ExprLike, ill_like, constant_like, interpolated_like, array_of_like, map_of_like, variable_like, module_variable_like, module_of_like, this_like, block_expr_like, call_expr_like, fn_like, chain_like, and_like, or_like, coalesce_like, ExprsLike, no_exprs_like, expr_like, PairsLike, no_pairs_like, pair_like, BaseLike, on_place_like, on_value_like, StepLike, ill_step_like, property_like, index_like, method_like, StepsLike, last_like, more_like, TargetLike, ill_target_like, nowhere_like, to_root_like, to_part_like, GuardLike, always_like, when_like, ArmsLike, no_arms_like, arm_like, unlisted_like, DeedLike, ill_deed_like, noop_like, if_deed_like, switch_like, while_like, do_like, for_like, assignment_like, block_like, try_like, evaluate_like, discard_like, leave_like, StmtLike, var_like, does_like, StmtsLike, no_stmts_like, stmt_like, FunctionLike, function_like}
+use Rattle.theory_naming.specs.Naming.{Like, unit_like, bool_like, int_like, float_like, char_like, text_like, array_like, map_like, pointer_like, range_like, inclusive_like, LikeAll, none_like, item_like, LikeFields, no_fields_like, field_like, CalleeLike, operator_like, qualified_like, by_name_like, IsFn, Total, ExprLike, ill_like, constant_like, interpolated_like, array_of_like, map_of_like, variable_like, module_variable_like, module_of_like, this_like, block_expr_like, call_expr_like, fn_like, chain_like, and_like, or_like, coalesce_like, ExprsLike, no_exprs_like, expr_like, PairsLike, no_pairs_like, pair_like, BaseLike, on_place_like, on_value_like, StepLike, ill_step_like, property_like, index_like, method_like, StepsLike, last_like, more_like, TargetLike, ill_target_like, nowhere_like, to_root_like, to_part_like, GuardLike, always_like, when_like, ArmsLike, no_arms_like, arm_like, unlisted_like, DeedLike, ill_deed_like, noop_like, if_deed_like, switch_like, while_like, do_like, for_like, assignment_like, block_like, try_like, evaluate_like, discard_like, leave_like, StmtLike, var_like, does_like, StmtsLike, no_stmts_like, stmt_like, FunctionLike, function_like}
 use Rattle.theory_naming.specs.Renaming.{Stands, is_anonymous, names_one, call_by_name, calls_by_name, renamed_value, renamed_values, renamed_fields, renamed_expr, renamed_exprs, renamed_pairs, renamed_maybe, renamed_arms, renamed_stmt, renamed_stmts, renamed_function}
 
 -- ---- `Fn` among the words
@@ -117,6 +117,7 @@ module _ (named : Text → Text) (own : (t : Text) → is_anonymous t ≡ false 
     value_renamed UnitV = unit_like
     value_renamed (BoolV b) = bool_like b
     value_renamed (IntV n) = int_like n
+    value_renamed (FloatV c) = float_like c
     value_renamed (CharV c) = char_like c
     value_renamed (TextV t) = text_like t
     value_renamed (ArrayV vs) = array_like (values_renamed vs)
@@ -137,6 +138,7 @@ module _ (named : Text → Text) (own : (t : Text) → is_anonymous t ≡ false 
   constant_renamed UnitV = ill_like
   constant_renamed (BoolV b) = constant_like (bool_like b)
   constant_renamed (IntV n) = constant_like (int_like n)
+  constant_renamed (FloatV c) = constant_like (float_like c)
   constant_renamed (CharV c) = constant_like (char_like c)
   constant_renamed (TextV t) = constant_like (text_like t)
   constant_renamed (ArrayV vs) = constant_like (value_renamed (ArrayV vs))
@@ -292,6 +294,7 @@ module _ (named : Text → Text) (own : (t : Text) → is_anonymous t ≡ false 
     expr_renamed loop (tree.DynamicConstant v) h = constant_renamed v
     expr_renamed loop (tree.BoolConstant b) h = constant_like (bool_like b)
     expr_renamed loop (tree.IntegerConstant n) h = constant_like (int_like n)
+    expr_renamed loop (tree.FloatConstant c) h = constant_like (float_like c)
     expr_renamed loop (tree.CharConstant c) h = constant_like (char_like c)
     expr_renamed loop (tree.StringConstant t) h = constant_like (text_like t)
     expr_renamed loop tree.UnitConstant h = constant_like unit_like

@@ -2,7 +2,7 @@
 use Rattle.std.proofs.Common.{◌≡◌, ℕ, zero, suc, ◌-◌, Bool, true, false, cond, ◌&&◌, List, length, drop, Option, Some, refl, subst}
 use Rattle.rhai_base.specs.Value.{Text, Value, same_text}
 use Rattle.theory_meaning.specs.Act.{ScopeEntry, is_name, is_alias, Store, OutOfTurns, Ending, Outcome, Result, and_then, with_turn, put, module_name, resolved, restore, leave, call_then, returned, returned_outcome, on_again, rounds}
-use Rattle.theory_naming.specs.Naming.{OptionOf, both_some, ListOf, both_empty, both_more, Like, unit_like, bool_like, int_like, char_like, text_like, array_like, map_like, pointer_like, range_like, inclusive_like, MaybeLike, EntryLike, entry_like, StoreLike, returns_like, breaks_like, continues_like, throw_like, again_like, EndingLike, gives_like, leaves_like, OutcomeLike, ended_like, halted_like, ResultLike, at_like}
+use Rattle.theory_naming.specs.Naming.{OptionOf, both_some, ListOf, both_empty, both_more, Like, unit_like, bool_like, int_like, float_like, char_like, text_like, array_like, map_like, pointer_like, range_like, inclusive_like, MaybeLike, EntryLike, entry_like, StoreLike, returns_like, breaks_like, continues_like, throw_like, again_like, EndingLike, gives_like, leaves_like, OutcomeLike, ended_like, halted_like, ResultLike, at_like}
 use Rattle.theory_naming.proofs.Values.{length_kept}
 
 drop_like : {A : Type 0} {R : A → A → Type 0} (n : ℕ) {xs ys : List A} → ListOf R xs ys → ListOf R (drop n xs) (drop n ys)
@@ -19,6 +19,7 @@ module _ {N : Text → Text → Type 0} where
   module_kept unit_like = refl
   module_kept (bool_like b) = refl
   module_kept (int_like n) = refl
+  module_kept (float_like c) = refl
   module_kept (char_like c) = refl
   module_kept (text_like t) = refl
   module_kept (array_like h) = refl

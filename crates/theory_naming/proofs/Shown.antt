@@ -2,7 +2,7 @@
 use Rattle.std.proofs.Common.{◌≡◌, Bool, true, false, ◌++◌, refl, ap}
 use Rattle.std.specs.Prelude.{codes}
 use Rattle.rhai_base.specs.Value.{Text, Value, PointerV, Values, Fields, comma, form, form_items, form_fields, inner, text_of}
-use Rattle.theory_naming.specs.Naming.{Like, unit_like, bool_like, int_like, char_like, text_like, array_like, map_like, pointer_like, range_like, inclusive_like, LikeAll, none_like, item_like, LikeFields, no_fields_like, field_like}
+use Rattle.theory_naming.specs.Naming.{Like, unit_like, bool_like, int_like, float_like, char_like, text_like, array_like, map_like, pointer_like, range_like, inclusive_like, LikeAll, none_like, item_like, LikeFields, no_fields_like, field_like}
 
 module _ (N : Text → Text → Type 0) (shown : (f g : Text) (vs ws : Values) → N f g → inner (PointerV f vs) ≡ inner (PointerV g ws)) where
   mutual
@@ -12,6 +12,7 @@ module _ (N : Text → Text → Type 0) (shown : (f g : Text) (vs ws : Values) �
     inner_kept _ _ unit_like = refl
     inner_kept _ _ (bool_like b) = refl
     inner_kept _ _ (int_like n) = refl
+    inner_kept _ _ (float_like c) = refl
     inner_kept _ _ (char_like c) = refl
     inner_kept _ _ (text_like t) = refl
     inner_kept _ _ (array_like h) = ap (λ t. codes "[" ++ t ++ codes "]") (items_kept true _ _ h)
@@ -33,6 +34,7 @@ module _ (N : Text → Text → Type 0) (shown : (f g : Text) (vs ws : Values) �
   text_kept _ _ unit_like = refl
   text_kept _ _ (bool_like b) = refl
   text_kept _ _ (int_like n) = refl
+  text_kept _ _ (float_like c) = refl
   text_kept _ _ (char_like c) = refl
   text_kept _ _ (text_like t) = refl
   text_kept _ _ (array_like h) = inner_kept _ _ (array_like h)

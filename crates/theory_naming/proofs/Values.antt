@@ -1,8 +1,8 @@
 -- Values that are the same but for names.
-use Rattle.std.proofs.Common.{◌≡◌, ℕ, zero, suc, ℤ, Bool, true, false, cond, ◌&&◌, List, [], ◌∷◌, ◌++◌, length, map, Option, Some, None, refl, ap, subst, ◌∙◌}
+use Rattle.std.proofs.Common.{◌≡◌, ℕ, zero, suc, ℤ, Bool, true, false, cond, ◌&&◌, ◌||◌, List, [], ◌∷◌, ◌++◌, length, map, Option, Some, None, refl, ap, subst, ◌∙◌}
 use Rattle.std.specs.Prelude.{if◌then◌else◌, option_map, slice_get}
 use Rattle.std.specs.Str.{chars}
-use Rattle.rhai_base.specs.Value.{Text, Value, CharV, ArrayV, MapV, Values, item, Fields, field, items, values, type_name, same, same_items, same_fields, same_text, is_hashable, are_hashable, fields_hashable}
+use Rattle.rhai_base.specs.Value.{Text, Value, FloatV, CharV, ArrayV, MapV, Values, item, Fields, field, items, values, type_name, same, same_items, same_fields, same_text, holds_float, hold_float, fields_hold_float, is_hashable, are_hashable, fields_hashable}
 use Rattle.rhai_base.specs.Operators.{text_lt}
 use Rattle.std.proofs.lemmas.Bool.{and_parts}
 use Rattle.theory_meaning.specs.ActForms.{truth}
@@ -11,7 +11,7 @@ use Rattle.theory_meaning.specs.Elements.{index_in, count, value_at, with_value_
 use Rattle.theory_meaning.specs.Places.{PlaceKey, AtIndex, AtEntry, inside, along, with_inside, with_along}
 use Rattle.theory_meaning.specs.Shape.{is_unit}
 use Rattle.theory_meaning.specs.Tree.{IntRange, ExclusiveInt, InclusiveInt, SwitchTable, SwitchCase, SwitchRange}
-use Rattle.theory_naming.specs.Naming.{OptionOf, both_none, both_some, ListOf, both_empty, both_more, Like, unit_like, bool_like, int_like, char_like, text_like, array_like, map_like, pointer_like, range_like, inclusive_like, LikeAll, none_like, item_like, LikeFields, no_fields_like, field_like, PairLike, named_like, Likes, MaybeLike}
+use Rattle.theory_naming.specs.Naming.{OptionOf, both_none, both_some, ListOf, both_empty, both_more, Like, unit_like, bool_like, int_like, float_like, char_like, text_like, array_like, map_like, pointer_like, range_like, inclusive_like, LikeAll, none_like, item_like, LikeFields, no_fields_like, field_like, PairLike, named_like, Likes, MaybeLike}
 
 -- ---- lists and options
 
@@ -53,6 +53,7 @@ module _ {N : Text → Text → Type 0} where
   type_kept unit_like = refl
   type_kept (bool_like b) = refl
   type_kept (int_like n) = refl
+  type_kept (float_like c) = refl
   type_kept (char_like c) = refl
   type_kept (text_like t) = refl
   type_kept (array_like h) = refl
@@ -69,6 +70,7 @@ module _ {N : Text → Text → Type 0} where
   unit_kept unit_like = refl
   unit_kept (bool_like b) = refl
   unit_kept (int_like n) = refl
+  unit_kept (float_like c) = refl
   unit_kept (char_like c) = refl
   unit_kept (text_like t) = refl
   unit_kept (array_like h) = refl
@@ -81,6 +83,7 @@ module _ {N : Text → Text → Type 0} where
   truth_kept unit_like = refl
   truth_kept (bool_like b) = refl
   truth_kept (int_like n) = refl
+  truth_kept (float_like c) = refl
   truth_kept (char_like c) = refl
   truth_kept (text_like t) = refl
   truth_kept (array_like h) = refl
@@ -144,6 +147,7 @@ module _ {N : Text → Text → Type 0} where
   inside_like unit_like k = both_none
   inside_like (bool_like b) k = both_none
   inside_like (int_like n) k = both_none
+  inside_like (float_like c) k = both_none
   inside_like (char_like c) k = both_none
   inside_like (text_like t) k = both_none
   inside_like (pointer_like n h) k = both_none
@@ -162,6 +166,7 @@ module _ {N : Text → Text → Type 0} where
   with_inside_like unit_like k q = both_none
   with_inside_like (bool_like b) k q = both_none
   with_inside_like (int_like n) k q = both_none
+  with_inside_like (float_like c) k q = both_none
   with_inside_like (char_like c) k q = both_none
   with_inside_like (text_like t) k q = both_none
   with_inside_like (pointer_like n h) k q = both_none
@@ -190,6 +195,7 @@ module _ {N : Text → Text → Type 0} where
     hashable_kept unit_like = refl
     hashable_kept (bool_like b) = refl
     hashable_kept (int_like n) = refl
+    hashable_kept (float_like c) = refl
     hashable_kept (char_like c) = refl
     hashable_kept (text_like t) = refl
     hashable_kept (array_like h) = hashable_all h
@@ -206,12 +212,35 @@ module _ {N : Text → Text → Type 0} where
     hashable_fields no_fields_like = refl
     hashable_fields (field_like k h r) = λ i. hashable_kept h i && hashable_fields r i
 
+  mutual
+    pub float_kept : {v w : Value} → Like N v w → holds_float v ≡ holds_float w
+    float_kept unit_like = refl
+    float_kept (bool_like b) = refl
+    float_kept (int_like n) = refl
+    float_kept (float_like x) = refl
+    float_kept (char_like c) = refl
+    float_kept (text_like t) = refl
+    float_kept (array_like h) = float_all h
+    float_kept (map_like h) = float_fields h
+    float_kept (pointer_like n h) = refl
+    float_kept (range_like a b) = refl
+    float_kept (inclusive_like a b) = refl
+
+    float_all : {vs ws : Values} → LikeAll N vs ws → hold_float vs ≡ hold_float ws
+    float_all none_like = refl
+    float_all (item_like h k) = λ i. float_kept h i || float_all k i
+
+    float_fields : {fs gs : Fields} → LikeFields N fs gs → fields_hold_float fs ≡ fields_hold_float gs
+    float_fields no_fields_like = refl
+    float_fields (field_like k h r) = λ i. float_kept h i || float_fields r i
+
   -- what holds no pointer is as it was
   mutual
     pub hashable_equal : {v w : Value} → Like N v w → is_hashable v ≡ true → v ≡ w
     hashable_equal unit_like q = refl
     hashable_equal (bool_like b) q = refl
     hashable_equal (int_like n) q = refl
+    hashable_equal (float_like c) q = refl
     hashable_equal (char_like c) q = refl
     hashable_equal (text_like t) q = refl
     hashable_equal (array_like h) q = ap ArrayV (all_equal h q)
@@ -233,6 +262,8 @@ module _ {N : Text → Text → Type 0} where
   holds_kept (InclusiveInt a b) (int_like n) = refl
   holds_kept r unit_like = refl
   holds_kept r (bool_like b) = refl
+  holds_kept (ExclusiveInt a b) (float_like x) = refl
+  holds_kept (InclusiveInt a b) (float_like x) = refl
   holds_kept r (char_like c) = refl
   holds_kept r (text_like t) = refl
   holds_kept (ExclusiveInt a b) (array_like h) = refl
@@ -272,6 +303,7 @@ module _ {N : Text → Text → Type 0} where
       same_kept unit_like unit_like = refl
       same_kept (bool_like a) (bool_like b) = refl
       same_kept (int_like a) (int_like b) = refl
+      same_kept (float_like a) (float_like b) = refl
       same_kept (char_like a) (char_like b) = refl
       same_kept (text_like a) (text_like b) = refl
       same_kept (range_like a b) (range_like c d) = refl

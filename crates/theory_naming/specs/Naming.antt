@@ -1,6 +1,6 @@
 -- What is the same but for the names of functions, by a relation of names.
 use Rattle.std.specs.Prelude.{◌≡◌, ℕ, suc, ℤ, Bool, true, false, List, [], ◌∷◌, Option, Some, None}
-use Rattle.rhai_base.specs.Value.{Text, Value, UnitV, BoolV, IntV, CharV, TextV, ArrayV, MapV, PointerV, RangeV, RangeInclusiveV, Values, no_values, item, Fields, no_fields, field}
+use Rattle.rhai_base.specs.Value.{Text, Value, UnitV, BoolV, IntV, FloatV, CharV, TextV, ArrayV, MapV, PointerV, RangeV, RangeInclusiveV, Values, no_values, item, Fields, no_fields, field, holds_float}
 use Rattle.rhai_base.specs.Operators.{Operator, Computed, NoEntry, Is, Overflows}
 use Rattle.theory_meaning.specs.Act.{EntryKind, ScopeEntry, HostCall, Answer, Answers, AnswersThrow, Host, Key, Store, Exit, Returns, Breaks, Continues, Throws, Again, Ending, Gives, Leaves, Halt, Outcome, Ended, Halted, Result, At, ScriptCall, Root}
 use Rattle.base_tokens.specs.Names.{is_valid_name}
@@ -28,6 +28,7 @@ module _ (N : Text → Text → Type 0) where
       unit_like : Like UnitV UnitV
       bool_like : (b : Bool) → Like (BoolV b) (BoolV b)
       int_like : (n : ℤ) → Like (IntV n) (IntV n)
+      float_like : (x : ℕ) → Like (FloatV x) (FloatV x)
       char_like : (c : ℕ) → Like (CharV c) (CharV c)
       text_like : (t : Text) → Like (TextV t) (TextV t)
       array_like : {vs ws : Values} → LikeAll vs ws → Like (ArrayV vs) (ArrayV ws)
@@ -72,6 +73,7 @@ module _ (N : Text → Text → Type 0) where
     pub answer : (cs ds : List HostCall) (c d : HostCall) → ListOf CallLike cs ds → CallLike c d → AnswerLike (h.answer cs c) (h'.answer ds d)
     pub value : (x : Text) → MaybeLike (h.module_value x) (h'.module_value x)
     pub path : (p : Text) → h.module_of p ≡ h'.module_of p
+    pub text : {v w : Value} → Like v w → holds_float v ≡ true → h.text v ≡ h'.text w
 
   pub record StoreLike (s s' : Store) : Type 0 where
     pub scope : ListOf EntryLike s.scope s'.scope

@@ -2,7 +2,7 @@
 use Rattle.std.proofs.Common.{◌≡◌, ℤ, Bool, true, false, List, [], ◌∷◌, ◌++◌, Option, Some, None, if◌then◌else◌, refl, subst, pos, suc, zero, ℕ}
 use Rattle.std.specs.Prelude.{negsuc, int_div, int_rem, ◌+ℤ◌, ◌-ℤ◌, ◌*ℤ◌}
 use Rattle.std.specs.Char.{encode_utf8}
-use Rattle.rhai_base.specs.Value.{Text, Value, UnitV, BoolV, IntV, CharV, TextV, PointerV, same_text, type_name}
+use Rattle.rhai_base.specs.Value.{Text, Value, UnitV, BoolV, IntV, FloatV, CharV, TextV, PointerV, same_text, type_name}
 use Rattle.rhai_base.specs.Operators as table
 use Rattle.rhai_base.specs.Operators.{Operator, Computed, NoEntry, Is, Overflows, fits, quotient, remainder, on_ints, on_bools, on_texts, on_chars, on_units, on_joined, on_from, on_to, on_different, binary, unary, computed}
 use Rattle.theory_meaning.specs.Engine.{Engine, is_open, built_in}
@@ -91,6 +91,8 @@ binary_plain op (CharV a) (TextV b) = joined_plain op (encode_utf8 a ++ b)
 binary_plain op UnitV UnitV = units_plain op
 binary_plain op (IntV a) UnitV = from_plain op a
 binary_plain op UnitV (IntV b) = to_plain op b
+binary_plain op (FloatV x) w = refl
+binary_plain op v (FloatV y) = refl
 binary_plain op v w = unless_plain (same_text (type_name v) (type_name w)) op
 
 unary_plain : (op : Operator) (v : Value) → gives_plain (unary op v) ≡ true

@@ -2,8 +2,8 @@
 use Rattle.std.proofs.Common.{◌≡◌, ℕ, zero, suc, Bool, true, false, cond, List, [], ◌∷◌, Option, Some, None, refl, sym, ap, ◌∙◌, subst}
 use Rattle.std.specs.Prelude.{◌&&◌, ◌||◌, not, is_some, nat_lt}
 use Rattle.std.proofs.lemmas.Slice.Eq.{bytes_eq-Decides}
-use Rattle.rhai_base.specs.Value.{Text, Value, UnitV, MapV, PointerV, no_values, item, same_text, is_hashable, BoolV, IntV, CharV, TextV}
-use Rattle.theory_meaning.specs.Constants.{constant_value, constant_values, constant_entries, constant_bool, array_value, map_value, joined_value, value_and, entry_and, is_constant, is_literal_unit, constant_for}
+use Rattle.rhai_base.specs.Value.{Text, Value, UnitV, MapV, PointerV, no_values, item, same_text, is_hashable, BoolV, IntV, FloatV, CharV, TextV}
+use Rattle.theory_meaning.specs.Constants.{constant_value, constant_values, constant_entries, constant_bool, are_floatless, where_floatless, text_constants, array_value, map_value, joined_value, value_and, entry_and, is_constant, is_literal_unit, constant_for}
 use Rattle.theory_meaning.specs.Control.{case_for, ranges_with, or_ranges, chosen}
 use Rattle.theory_meaning.specs.Desugar.{root_of}
 use Rattle.theory_meaning.specs.Elements.{entry}
@@ -12,7 +12,7 @@ use Rattle.theory_meaning.specs.Faults.{has_operands}
 use Rattle.theory_meaning.specs.Queries.{is_control_flow_break, is_pure_expr, are_pure_exprs, are_pure_pairs, is_pure}
 use Rattle.theory_meaning.specs.Queries.{is_unit as is_unit_expr}
 use Rattle.theory_meaning.specs.Shape.{is_unit, is_rest, is_left_side, condition_at, case_fits, spares, default_fits, is_table}
-use Rattle.theory_meaning.specs.Tree.{ChainFlags, SwitchTable, Callee, Expr, DynamicConstant, BoolConstant, UnitConstant, InterpolatedString, ArrayOf, MapOf, Variable, ThisPtr, Property, BlockExpr, FnCall, Dot, Index, And, Or, Coalesce, Exprs, no_exprs, expr, Pairs, no_pairs, pair, Arms, no_arms, arm, count_arms, Stmt, Noop, If, Switch, While, Assignment, Var, FnCallStmt, ExprStmt, Return, an_expr, Stmts, no_stmts, stmt, IntegerConstant, CharConstant, StringConstant}
+use Rattle.theory_meaning.specs.Tree.{ChainFlags, SwitchTable, Callee, Expr, DynamicConstant, BoolConstant, UnitConstant, InterpolatedString, ArrayOf, MapOf, Variable, ThisPtr, Property, BlockExpr, FnCall, Dot, Index, And, Or, Coalesce, Exprs, no_exprs, expr, Pairs, no_pairs, pair, Arms, no_arms, arm, count_arms, Stmt, Noop, If, Switch, While, Assignment, Var, FnCallStmt, ExprStmt, Return, an_expr, Stmts, no_stmts, stmt, IntegerConstant, FloatConstant, CharConstant, StringConstant}
 use Rattle.theory_meaning.specs.Walk.{Node, OfExpr, OfStmt, Spot, RightSide, every, over_stmts, arms_at, arm_at, listed}
 use Rattle.theory_meaning.proofs.Walk.{Alongside, stmts_alongside}
 use Rattle.base_tokens.specs.Names.{are_all}
@@ -110,7 +110,7 @@ constant_array_goes vs h = (_, rule.array_of_constants h, refl, λ u. refl)
 pub constant_map_goes : {k : Context} {ps : Pairs} {template : List Text} (vs : List (Text × Value)) → constant_entries ps ≡ Some vs → ExprGoes k false (MapOf ps template)
 constant_map_goes vs h = (_, rule.map_of_constants vs h, refl, λ u. refl)
 
-pub constant_text_goes : {k : Context} {es : Exprs} (vs : List Value) → constant_values es ≡ Some vs → ExprGoes k false (InterpolatedString es)
+pub constant_text_goes : {k : Context} {es : Exprs} (vs : List Value) → text_constants es ≡ Some vs → ExprGoes k false (InterpolatedString es)
 constant_text_goes vs h = (_, rule.text_folds vs h, refl, λ u. refl)
 
 -- braces around one constant: `braces_of_expression`
@@ -255,6 +255,7 @@ pub chosen_switch_goes : {k : Context} (e : Expr) (as' : Arms) (t : SwitchTable)
 chosen_switch_goes (DynamicConstant v) as' t h q = short_switch_goes (DynamicConstant v) as' t v refl h q
 chosen_switch_goes (BoolConstant b) as' t h q = short_switch_goes (BoolConstant b) as' t (BoolV b) refl h q
 chosen_switch_goes (IntegerConstant n) as' t h q = short_switch_goes (IntegerConstant n) as' t (IntV n) refl h q
+chosen_switch_goes (FloatConstant x) as' t h q = short_switch_goes (FloatConstant x) as' t (FloatV x) refl h q
 chosen_switch_goes (CharConstant c) as' t h q = short_switch_goes (CharConstant c) as' t (CharV c) refl h q
 chosen_switch_goes (StringConstant x) as' t h q = short_switch_goes (StringConstant x) as' t (TextV x) refl h q
 chosen_switch_goes UnitConstant as' t h q = short_switch_goes UnitConstant as' t UnitV refl h q
@@ -278,10 +279,11 @@ after_leaving_goes (stmt s (stmt t ss)) h d =
 
 mutual
   constant_pure : (e : Expr) → is_constant e ≡ true → is_pure_expr e ≡ true
-  constant_pure (InterpolatedString es) h = constants_pure es (joined (constant_values es) h) where
-    joined : (o : Option (List Value)) → is_some (joined_value o) ≡ true → is_some o ≡ true
-    joined None h = h
-    joined (Some vs) h = refl
+  constant_pure (InterpolatedString es) h = constants_pure es (joined (are_floatless es) (constant_values es) h) where
+    joined : (b : Bool) (o : Option (List Value)) → is_some (joined_value (where_floatless b o)) ≡ true → is_some o ≡ true
+    joined true None h = h
+    joined false None h = h
+    joined b (Some vs) h = refl
   constant_pure (ArrayOf es) h = constants_pure es (array (constant_values es) h) where
     array : (o : Option (List Value)) → is_some (array_value o) ≡ true → is_some o ≡ true
     array None h = h

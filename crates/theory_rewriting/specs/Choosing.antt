@@ -1,8 +1,8 @@
 -- What is left to choose in a `switch` over a constant: neither several arms nor ranges.
 use Rattle.std.specs.Prelude.{ℕ, Bool, true, false, ◌&&◌, List, [], ◌∷◌, Option, Some, None}
-use Rattle.rhai_base.specs.Value.{Value, UnitV, BoolV, IntV, CharV, TextV, is_hashable}
+use Rattle.rhai_base.specs.Value.{Value, UnitV, BoolV, IntV, FloatV, CharV, TextV, is_hashable}
 use Rattle.theory_meaning.specs.Control.{case_for, ranges_with}
-use Rattle.theory_meaning.specs.Tree.{SwitchTable, Expr, DynamicConstant, BoolConstant, IntegerConstant, CharConstant, StringConstant, UnitConstant}
+use Rattle.theory_meaning.specs.Tree.{SwitchTable, Expr, DynamicConstant, BoolConstant, IntegerConstant, FloatConstant, CharConstant, StringConstant, UnitConstant}
 
 -- a case list of at most one arm, or neither a case list nor a range
 abbrev pub is_short : Option (List ℕ) → List ℕ → Bool
@@ -20,6 +20,7 @@ abbrev pub own_value : Expr → Option Value
 own_value (DynamicConstant v) = Some v
 own_value (BoolConstant b) = Some (BoolV b)
 own_value (IntegerConstant n) = Some (IntV n)
+own_value (FloatConstant x) = Some (FloatV x)
 own_value (CharConstant c) = Some (CharV c)
 own_value (StringConstant t) = Some (TextV t)
 own_value UnitConstant = Some UnitV

@@ -1,6 +1,6 @@
 -- What becomes of the operands of `&&`, `||` and `??`, and of the parts of an interpolated text: one change at a time.
 use Rattle.std.specs.Prelude.{◌≡◌, Bool, true, false, not, [], ◌++◌, Some}
-use Rattle.rhai_base.specs.Value.{Text, Value, UnitV, text_of}
+use Rattle.rhai_base.specs.Value.{Text, Value, UnitV, holds_float, text_of}
 use Rattle.theory_meaning.specs.Constants.{constant_value, constant_bool}
 use Rattle.theory_meaning.specs.Queries.{is_pure_expr}
 use Rattle.theory_meaning.specs.Shape.{is_unit}
@@ -42,4 +42,4 @@ pub data TextTo : Exprs → Exprs → Type 0 where
   in_other_parts : {e : Expr} {es es' : Exprs} → TextTo es es' → TextTo (expr e es) (expr e es')
   texts_join : {t u : Text} {es : Exprs} → TextTo (expr (StringConstant t) (expr (StringConstant u) es)) (expr (StringConstant (t ++ u)) es)
   -- a unit, or an empty text
-  empty_goes : {e : Expr} {es : Exprs} (v : Value) → constant_value e ≡ Some v → text_of v ≡ [] → TextTo (expr e es) es
+  empty_goes : {e : Expr} {es : Exprs} (v : Value) → constant_value e ≡ Some v → holds_float v ≡ false → text_of v ≡ [] → TextTo (expr e es) es

@@ -1,6 +1,6 @@
 -- Trees of the whole language in which nothing is left to reduce: each case on one node or on one list.
 use Rattle.std.specs.Prelude.{◌≡◌, Bool, true, false, List, [], ◌∷◌, None}
-use Rattle.theory_meaning.specs.Constants.{constant_values, constant_entries, constant_bool}
+use Rattle.theory_meaning.specs.Constants.{constant_values, text_constants, constant_entries, constant_bool}
 use Rattle.theory_meaning.specs.Engine.{Engine}
 use Rattle.theory_meaning.specs.Tree.{InterpolatedString, ArrayOf, MapOf, BlockExpr, FnCall, And, Or, Coalesce, If, Switch, While, FnCallStmt, Return, an_expr, Stmts, no_stmts, stmt, Function, Script}
 use Rattle.theory_meaning.specs.Walk.{Node, OfExpr, OfStmt, every, over_stmts}
@@ -25,7 +25,7 @@ ends_in_return (stmt s (stmt t ss)) = ends_in_return (stmt t ss)
 abbrev pub IsIrreducibleAlone : Engine → Node → Type 0
 IsIrreducibleAlone r (OfExpr (ArrayOf es)) = constant_values es ≡ None
 IsIrreducibleAlone r (OfExpr (MapOf ps template)) = constant_entries ps ≡ None
-IsIrreducibleAlone r (OfExpr (InterpolatedString es)) = constant_values es ≡ None
+IsIrreducibleAlone r (OfExpr (InterpolatedString es)) = text_constants es ≡ None
 IsIrreducibleAlone r (OfExpr (BlockExpr ss)) = holds_constant ss ≡ false
 IsIrreducibleAlone r (OfExpr (FnCall c es)) = folded r c es ≡ None
 IsIrreducibleAlone r (OfExpr (And es)) = follows_deciding false es ≡ false

@@ -1,7 +1,7 @@
 -- Trees in which none of the forms below is left, at every depth that the optimiser reaches.
 use Rattle.std.specs.Prelude.{◌≡◌, Bool, true, false, ◌&&◌, not, None}
 use Rattle.theory_meaning.specs.Engine.{Engine}
-use Rattle.theory_meaning.specs.Constants.{constant_bool, constant_entries, constant_values, is_constant, is_literal_unit}
+use Rattle.theory_meaning.specs.Constants.{constant_bool, constant_entries, constant_values, text_constants, is_constant, is_literal_unit}
 use Rattle.theory_meaning.specs.Shape.{is_rest, is_left_side, is_table}
 use Rattle.theory_meaning.specs.Tree.{Expr, InterpolatedString, ArrayOf, MapOf, BlockExpr, FnCall, Dot, Index, And, Or, Coalesce, Exprs, Pairs, MaybeExpr, Arms, no_arms, arm, Stmt, If, Switch, While, Assignment, ExprStmt, FnCallStmt, Stmts, no_stmts, stmt}
 use Rattle.theory_meaning.specs.Walk.{Node, OfExpr, OfStmt, Spot, RightSide, Walk, every, parts_of_expr, parts_of_stmt, over_expr, over_exprs, over_pairs, over_maybe, over_stmt, over_stmts}
@@ -21,7 +21,7 @@ holds_constant _ = false
 abbrev pub IsReducedNode : Engine → Node → Type 0
 IsReducedNode r (OfExpr (ArrayOf es)) = constant_values es ≡ None
 IsReducedNode r (OfExpr (MapOf ps template)) = constant_entries ps ≡ None
-IsReducedNode r (OfExpr (InterpolatedString es)) = constant_values es ≡ None
+IsReducedNode r (OfExpr (InterpolatedString es)) = text_constants es ≡ None
 IsReducedNode r (OfExpr (BlockExpr ss)) = holds_constant ss ≡ false
 IsReducedNode r (OfExpr (FnCall c es)) = folded r c es ≡ None
 IsReducedNode r (OfExpr (And es)) = follows_deciding false es ≡ false

@@ -1,9 +1,9 @@
 -- The rewrite rules, one constructor each: what may stand for what. Each family is flat; `Rewriting` closes over them.
 use Rattle.std.specs.Prelude.{◌≡◌, ◌<◌, ℕ, ℤ, Bool, true, false, ◌&&◌, List, [], ◌∷◌, ◌++◌, length, Some, None, codes}
-use Rattle.rhai_base.specs.Value.{Text, Value, IntV, TextV, ArrayV, MapV, PointerV, Values, Fields, values, items, is_hashable}
+use Rattle.rhai_base.specs.Value.{Text, Value, IntV, TextV, ArrayV, MapV, PointerV, Values, Fields, values, items, is_hashable, text_of}
 use Rattle.rhai_base.specs.Operators.{Operator}
 use Rattle.base_tokens.specs.Names.{is_valid_name}
-use Rattle.theory_meaning.specs.Constants.{constant_value, constant_values, constant_entries, constant_bool, constant_for, is_literal_unit, pointer_call}
+use Rattle.theory_meaning.specs.Constants.{constant_value, constant_values, text_constants, constant_entries, constant_bool, constant_for, is_literal_unit, pointer_call}
 use Rattle.theory_meaning.specs.Control.{case_for, texts_joined}
 use Rattle.theory_meaning.specs.Control.{chosen as cases_for}
 use Rattle.theory_meaning.specs.Elements.{index_in, entry, fields_of}
@@ -102,9 +102,9 @@ pub data ExprRule (k : Context) : Expr → Expr → Type 0 where
   and_of_none : ExprRule k (And no_exprs) (BoolConstant true)
   or_of_none : ExprRule k (Or no_exprs) (BoolConstant false)
   coalesce_of_none : ExprRule k (Coalesce no_exprs) UnitConstant
-  -- an interpolated text: its parts, and where all are constant its value
+  -- an interpolated text: its parts, and where all are constant and hold no float its value
   text_changes : {es es' : Exprs} → TextTo es es' → ExprRule k (InterpolatedString es) (InterpolatedString es')
-  text_folds : {es : Exprs} (vs : List Value) → constant_values es ≡ Some vs → ExprRule k (InterpolatedString es) (StringConstant (texts_joined vs))
+  text_folds : {es : Exprs} (vs : List Value) → text_constants es ≡ Some vs → ExprRule k (InterpolatedString es) (StringConstant (texts_joined text_of vs))
   -- a map of constants is its value
   map_of_constants : {ps : Pairs} {template : List Text} (vs : List (Text × Value)) → constant_entries ps ≡ Some vs → ExprRule k (MapOf ps template) (DynamicConstant (MapV (fields_of vs)))
   -- the language's own functions over constants

@@ -2,7 +2,7 @@
 use Rattle.std.proofs.Common.{◌≡◌, ℕ, zero, suc, ◌+◌, ◌≤◌, Bool, true, false, ◌⊎◌, inl, inr, List, [], ◌∷◌, Option, Some, None, refl, sym, ap, ◌∙◌, subst, arith}
 use Rattle.std.specs.Prelude.{not, if◌then◌else◌}
 use Rattle.rhai_base.specs.Value.{Text, Value, UnitV}
-use Rattle.theory_meaning.specs.Constants.{constant_values, constant_entries, constant_bool}
+use Rattle.theory_meaning.specs.Constants.{constant_values, text_constants, constant_entries, constant_bool}
 use Rattle.theory_meaning.specs.Desugar.{root_of}
 use Rattle.theory_meaning.specs.Engine.{Engine}
 use Rattle.theory_meaning.specs.Faults.{TreeFault, ChainShape, AssignTarget, SwitchFault, unless, faultless, AreWellFormedFunctions}
@@ -148,7 +148,7 @@ module _ (k : Context) where
   text_by : (es : Exprs) → ExprsStay k.engine es ⊎ ExprsChange k es → ExprStays k.engine (InterpolatedString es) ⊎ ExprChanges k (InterpolatedString es)
   text_by es d =
       unless_other (other (λ z. (InterpolatedString z.0, in_text z.1, refl, refl)) d) (λ x.
-      first (λ q. (refl, (record { alone = q; lists = tt; expressions = x.0 }, x.1))) (unless_some (constant_values es) (λ vs q. by_rule refl (constant_text_goes vs q))))
+      first (λ q. (refl, (record { alone = q; lists = tt; expressions = x.0 }, x.1))) (unless_some (text_constants es) (λ vs q. by_rule refl (constant_text_goes vs q))))
 
   call_by : (c : Callee) (es : Exprs) → ExprsStay k.engine es ⊎ ExprsChange k es → ExprStays k.engine (FnCall c es) ⊎ ExprChanges k (FnCall c es)
   call_by c es d =

@@ -4,7 +4,7 @@ use Rattle.std.proofs.lemmas.Bool.{and_parts}
 use Rattle.std.specs.Prelude.{if◌then◌else◌}
 use Rattle.std.specs.Option.{option_map}
 use Rattle.rhai_base.specs.Operators.{UpTo, Through, computed, binary}
-use Rattle.rhai_base.specs.Value.{Text, Value, UnitV, BoolV, IntV, CharV, TextV, ArrayV, MapV, RangeV, RangeInclusiveV, is_unit, values}
+use Rattle.rhai_base.specs.Value.{Text, Value, UnitV, BoolV, IntV, FloatV, CharV, TextV, ArrayV, MapV, RangeV, RangeInclusiveV, is_unit, values}
 use Rattle.theory_meaning.specs.Act.{ScopeEntry, IsConstant, World, Env, Store, IsStuck, WrongKind, Halted, At, Act, Fail, Scoped, Named, run_all, leave, restore}
 use Rattle.theory_meaning.specs.ActForms.{give, ◌>>=◌}
 use Rattle.theory_meaning.specs.Core as core
@@ -12,7 +12,7 @@ use Rattle.theory_meaning.specs.Desugar.{callee_by, core_expr, core_exprs, core_
 use Rattle.theory_meaning.specs.Elements.{fields_of}
 use Rattle.theory_meaning.specs.Meaning.{act, with_args, with_pairs, acts}
 use Rattle.theory_meaning.specs.Shape.{is_map, is_callable}
-use Rattle.theory_meaning.specs.Tree.{CallToken, OfOperator, Callee, Expr, DynamicConstant, BoolConstant, IntegerConstant, CharConstant, StringConstant, UnitConstant, ArrayOf, MapOf, FnCall, And, Exprs, no_exprs, expr, Pairs, no_pairs, pair, Stmt, Var, Block, ExprStmt, Share, Stmts, no_stmts, stmt}
+use Rattle.theory_meaning.specs.Tree.{CallToken, OfOperator, Callee, Expr, DynamicConstant, BoolConstant, IntegerConstant, FloatConstant, CharConstant, StringConstant, UnitConstant, ArrayOf, MapOf, FnCall, And, Exprs, no_exprs, expr, Pairs, no_pairs, pair, Stmt, Var, Block, ExprStmt, Share, Stmts, no_stmts, stmt}
 use Rattle.theory_meaning.proofs.Preserves.{keeps_refl, restore_keeps}
 use Rattle.theory_spelling.specs.Captures.{shared, does_nothing, grouped, is_range_sign, is_integer, are_two_integers, is_given, are_given, have_given, with_known, is_known, closure_in, captured, settled_by, settled}
 use Rattle.theory_spelling.proofs.Acts.{Same, SameAll, same_refl, same_trans, same_bind, all_refl, all_line}
@@ -101,6 +101,7 @@ module _ (w : World) (env : Env) (around : Bool) where
     given (DynamicConstant v) h = constant_given (is_unit v) v
     given (BoolConstant b) h = gives (BoolV b) same_refl
     given (IntegerConstant n) h = gives (IntV n) same_refl
+    given (FloatConstant x) h = gives (FloatV x) same_refl
     given (CharConstant c) h = gives (CharV c) same_refl
     given (StringConstant t) h = gives (TextV t) same_refl
     given UnitConstant h = gives UnitV same_refl

@@ -192,7 +192,7 @@ module _ (w : World) (env : Env) (adds : OnlyAdds env) where
   evaluated_alike loop (tree.BlockExpr ss) next = all_refl
   evaluated_alike loop _ next = all_refl
 
-  ast_alike : (loop : Bool) (es : tree.Exprs) → Same w env (act w (core_expr loop (bare_text es))) (with_args w (core_exprs loop es) text)
+  ast_alike : (loop : Bool) (es : tree.Exprs) → Same w env (act w (core_expr loop (bare_text es))) (with_args w (core_exprs loop es) (text w))
   unfolding texts_joined
   ast_alike loop tree.no_exprs = same_refl
   ast_alike loop (tree.expr e es) = same_refl
@@ -388,6 +388,7 @@ module _ (w : World) (env : Env) (adds : OnlyAdds env) where
     expr_alike (tree.DynamicConstant v) = plain_alike (tree.DynamicConstant v) refl (λ around. constant_kept w env around v)
     expr_alike (tree.BoolConstant b) = plain_alike (tree.BoolConstant b) refl (λ around. same_refl)
     expr_alike (tree.IntegerConstant n) = plain_alike (tree.IntegerConstant n) refl (λ around. same_refl)
+    expr_alike (tree.FloatConstant x) = plain_alike (tree.FloatConstant x) refl (λ around. same_refl)
     expr_alike (tree.CharConstant c) = plain_alike (tree.CharConstant c) refl (λ around. same_refl)
     expr_alike (tree.StringConstant t) = plain_alike (tree.StringConstant t) refl (λ around. same_refl)
     expr_alike tree.UnitConstant = plain_alike tree.UnitConstant refl (λ around. same_refl)

@@ -2,7 +2,7 @@
 use Rattle.std.proofs.Common.{◌≡◌, Bool, true, false, cond, ◌&&◌, ◌||◌, List, [], ◌∷◌, codes, ℤ, refl, ap, ◌∙◌}
 use Rattle.std.proofs.lemmas.Bool.{and_parts}
 use Rattle.std.proofs.lemmas.Slice.Eq.{bytes_eq-Decides}
-use Rattle.rhai_base.specs.Value.{Text, Value, UnitV, BoolV, IntV, CharV, TextV, ArrayV, MapV, PointerV, RangeV, RangeInclusiveV, Values, no_values, item, Fields, no_fields, field, items, values, same_text, same_fields}
+use Rattle.rhai_base.specs.Value.{Text, Value, UnitV, BoolV, IntV, FloatV, CharV, TextV, ArrayV, MapV, PointerV, RangeV, RangeInclusiveV, Values, no_values, item, Fields, no_fields, field, items, values, same_text, same_fields}
 use Rattle.rhai_base.proofs.Same.{same_exact}
 use Rattle.base_tokens.specs.Names.{is_among, are_all, is_valid_name}
 use Rattle.rhai_base.specs.Operators.{UpTo, Through, computed, binary}
@@ -110,6 +110,7 @@ module _ (w : World) (env : Env) (loop : Bool) where
     literal_written UnitV = same_refl
     literal_written (BoolV b) = same_refl
     literal_written (IntV n) = same_refl
+    literal_written (FloatV x) = same_refl
     literal_written (CharV c) = same_refl
     literal_written (TextV t) = same_refl
     literal_written (ArrayV vs) = same_trans (literals_written vs (λ us. give (ArrayV (values us)))) (same_path (ap (λ us. give (ArrayV us)) (values_items vs)))
@@ -130,6 +131,7 @@ module _ (w : World) (env : Env) (loop : Bool) where
   constant_kept UnitV = same_refl
   constant_kept (BoolV b) = same_refl
   constant_kept (IntV n) = same_refl
+  constant_kept (FloatV x) = same_refl
   constant_kept (CharV c) = same_refl
   constant_kept (TextV t) = same_refl
   constant_kept (ArrayV vs) = literal_written (ArrayV vs)

@@ -1,13 +1,13 @@
 -- Trees without what depends on how they are spelled: constants are written out, braces around one expression are gone,
 -- and so on. Two scripts are the same but for how they are spelled where this makes one of both, whatever the order of functions.
 use Rattle.std.specs.Prelude.{ℕ, zero, suc, Bool, true, false, not, cond, ◌&&◌, List, [], ◌∷◌, map, Option, Some, None, codes}
-use Rattle.rhai_base.specs.Value.{Text, Value, UnitV, BoolV, IntV, CharV, TextV, ArrayV, MapV, PointerV, RangeV, RangeInclusiveV, Values, no_values, item, Fields, no_fields, field, same_fields}
+use Rattle.rhai_base.specs.Value.{Text, Value, UnitV, BoolV, IntV, FloatV, CharV, TextV, ArrayV, MapV, PointerV, RangeV, RangeInclusiveV, Values, no_values, item, Fields, no_fields, field, same_fields}
 use Rattle.rhai_base.specs.Operators.{Operator, UpTo, Through, symbol}
 use Rattle.base_tokens.specs.Names.{is_valid_name}
 use Rattle.theory_meaning.specs.Constants.{is_literal_unit, pointer_call}
 use Rattle.theory_meaning.specs.Elements.{fields_of}
 use Rattle.theory_meaning.specs.Shape.{is_true, condition_at, are_distinct}
-use Rattle.theory_meaning.specs.Tree.{CallToken, NoToken, OfOperator, Callee, ChainFlags, Expr, DynamicConstant, BoolConstant, IntegerConstant, CharConstant, StringConstant, UnitConstant, InterpolatedString, ArrayOf, MapOf, Variable, ThisPtr, Property, MethodCall, BlockExpr, FnCall, Dot, Index, And, Or, Coalesce, Exprs, no_exprs, expr, Pairs, no_pairs, pair, MaybeExpr, no_expr, an_expr, Arms, no_arms, arm, Stmt, Noop, If, Switch, While, Do, For, Var, Assignment, FnCallStmt, Block, TryCatch, ExprStmt, BreakLoop, Return, Import, Stmts, no_stmts, stmt, Function, Script}
+use Rattle.theory_meaning.specs.Tree.{CallToken, NoToken, OfOperator, Callee, ChainFlags, Expr, DynamicConstant, BoolConstant, IntegerConstant, FloatConstant, CharConstant, StringConstant, UnitConstant, InterpolatedString, ArrayOf, MapOf, Variable, ThisPtr, Property, MethodCall, BlockExpr, FnCall, Dot, Index, And, Or, Coalesce, Exprs, no_exprs, expr, Pairs, no_pairs, pair, MaybeExpr, no_expr, an_expr, Arms, no_arms, arm, Stmt, Noop, If, Switch, While, Do, For, Var, Assignment, FnCallStmt, Block, TryCatch, ExprStmt, BreakLoop, Return, Import, Stmts, no_stmts, stmt, Function, Script}
 use Rattle.theory_naming.specs.Alike.{SameByKey, SameBut, AreApart}
 use Rattle.theory_naming.specs.Renaming.{is_anonymous}
 use Rattle.theory_spelling.specs.Captures.{grouped, settled}
@@ -50,6 +50,7 @@ abbrev mutual
   literal_of UnitV = UnitConstant
   literal_of (BoolV b) = BoolConstant b
   literal_of (IntV n) = IntegerConstant n
+  literal_of (FloatV x) = FloatConstant x
   literal_of (CharV c) = CharConstant c
   literal_of (TextV t) = StringConstant t
   literal_of (ArrayV vs) = ArrayOf (literals_of vs)

@@ -4,7 +4,7 @@ use Rattle.std.specs.Option.{option_map}
 use Rattle.rhai_base.specs.Operators.{UpTo, Through}
 use Rattle.rhai_base.specs.Value.{Text, same_text}
 use Rattle.theory_meaning.specs.Shape.{is_none}
-use Rattle.theory_meaning.specs.Tree.{CallToken, OfOperator, Expr, DynamicConstant, BoolConstant, IntegerConstant, CharConstant, StringConstant, UnitConstant, ArrayOf, MapOf, Variable, FnCall, And, Exprs, no_exprs, expr, Pairs, no_pairs, pair, Stmt, Var, Block, ExprStmt, Share, Stmts, no_stmts, stmt}
+use Rattle.theory_meaning.specs.Tree.{CallToken, OfOperator, Expr, DynamicConstant, BoolConstant, IntegerConstant, FloatConstant, CharConstant, StringConstant, UnitConstant, ArrayOf, MapOf, Variable, FnCall, And, Exprs, no_exprs, expr, Pairs, no_pairs, pair, Stmt, Var, Block, ExprStmt, Share, Stmts, no_stmts, stmt}
 
 -- ---- a list
 
@@ -61,6 +61,7 @@ abbrev mutual
   is_given (DynamicConstant v) = true
   is_given (BoolConstant b) = true
   is_given (IntegerConstant n) = true
+  is_given (FloatConstant x) = true
   is_given (CharConstant c) = true
   is_given (StringConstant t) = true
   is_given UnitConstant = true

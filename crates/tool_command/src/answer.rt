@@ -2,9 +2,12 @@
 
 use crate::constants::push_idle;
 use crate::diff::push_diff;
+use crate::heads::headed_as;
 use crate::line_ends::ended_as;
+use crate::listed::Listed;
 use crate::marks::push_mark;
 use crate::places::{push_json, push_place};
+use crate::promise::Promise;
 use crate::request::{Action, Target};
 use crate::runs::{Stop, has_value, run, stopped_at};
 use crate::stack::turns_borne;
@@ -16,7 +19,7 @@ use run_host::RunEnd;
 use std::alloc::{AllocError, Global};
 use std::fmt::{Display, Write};
 use syntax_source::{OptimizedText, Refusal, Why, optimize_text, read};
-use tool_findings::findings;
+use tool_findings::{Finding, Severity, findings};
 use tool_report::push_parts;
 
 /// What is said of a file.
@@ -71,7 +74,9 @@ impl<'q, 'a> Question<'q, 'a> {
     fn refused(&self, refusal: &Refusal) -> Result<Answer, AllocError> {
         let mut refused = Answer::new(self.task.alloc);
         if self.task.request.json {
-            self.find(refusal.position, &refusal.why, &mut refused)?;
+            let mark = Some(("refused", Severity::Error));
+            refused.is_found = true;
+            self.mark(refusal.position, mark, &refusal.why, &mut refused.said)?;
         } else {
             self.note(refusal.position, &refusal.why, &mut refused)?;
         }
@@ -106,7 +111,8 @@ impl<'q, 'a> Question<'q, 'a> {
             request.level,
         )?;
         push_idle(self.name, &given, info, &mut answer.noted)?;
-        let made = ended_as(alloc, request.syntax, self.text, text)?;
+        let ended = ended_as(alloc, request.syntax, self.text, text)?;
+        let made = headed_as(alloc, request.syntax, self.text, ended)?;
         if request.diff {
             push_diff(alloc, self.name, self.text, made.as_str(), &mut answer.said)?;
         }
@@ -123,24 +129,68 @@ impl<'q, 'a> Question<'q, 'a> {
         let script = self.script()?;
         let info = &self.task.info;
         push_idle(self.name, &script, info, &mut answer.noted)?;
-        for finding in &findings(self.task.alloc, &script, info)? {
-            self.find(finding.position, finding, answer)?;
+        let found = findings(self.task.alloc, &script, info)?;
+        for finding in &found {
+            self.list(finding, answer)?;
+        }
+        if self.task.request.promise {
+            self.promise(found.as_slice(), &mut answer.said)?;
         }
         Ok(())
     }
 
-    /// Says what was found at a place.
-    fn find<T: Display>(
+    /// Says what is promised of a script in which this is found: everything, or until a run comes to these places.
+    fn promise(&self, found: &[Finding], to: &mut String) -> Result<(), AllocError> {
+        let mut is_whole = true;
+        for finding in found {
+            if let Some(promise) = Promise::until(finding) {
+                is_whole = false;
+                self.say(finding.position, &promise, to)?;
+            }
+        }
+        if is_whole {
+            self.say(Position::NONE, &Promise::Everything, to)?;
+        }
+        Ok(())
+    }
+
+    /// Says what was found, unless its code is allowed.
+    fn list(&self, finding: &Finding, answer: &mut Answer) -> Result<(), AllocError> {
+        let kind = &finding.kind;
+        let request = &self.task.request;
+        if request.allowed.contains(&kind.code()) {
+            return Ok(());
+        }
+        answer.is_found = true;
+        if request.json {
+            let mark = Some((kind.code(), kind.severity()));
+            return self.mark(finding.position, mark, kind, &mut answer.said);
+        }
+        self.put(finding.position, &Listed(kind), &mut answer.said)
+    }
+
+    /// Appends what is said of a place, as JSON where this is asked for.
+    fn say<T: Display>(
         &self,
         position: Position,
         what: &T,
-        answer: &mut Answer,
+        to: &mut String,
     ) -> Result<(), AllocError> {
-        answer.is_found = true;
         if self.task.request.json {
-            return push_json(self.task.alloc, self.name, position, what, &mut answer.said);
+            return self.mark(position, None, what, to);
         }
-        self.put(position, what, &mut answer.said)
+        self.put(position, what, to)
+    }
+
+    /// Appends what is said of a place as JSON, with a code and a severity.
+    fn mark<T: Display>(
+        &self,
+        position: Position,
+        mark: Option<(&str, Severity)>,
+        what: &T,
+        to: &mut String,
+    ) -> Result<(), AllocError> {
+        push_json(self.task.alloc, self.name, position, mark, what, to)
     }
 
     /// Notes beside the answer what was found at a place.
@@ -168,7 +218,12 @@ impl<'q, 'a> Question<'q, 'a> {
 
     fn run(&self, answer: &mut Answer) -> Result<(), Refusal> {
         let script = self.script()?;
-        push_idle(self.name, &script, &self.task.info, &mut answer.noted)?;
+        let info = &self.task.info;
+        push_idle(self.name, &script, info, &mut answer.noted)?;
+        if self.task.request.promise {
+            let found = findings(self.task.alloc, &script, info)?;
+            self.promise(found.as_slice(), &mut answer.noted)?;
+        }
         let Some(entry) = &self.task.entry else {
             return Ok(self.report(&script, None, answer)?);
         };

@@ -1,5 +1,6 @@
 //! Marks under places.
 
+use crate::heads::MARK;
 use rhai_base::Position;
 use std::alloc::AllocError;
 use std::fmt::Write;
@@ -26,6 +27,7 @@ pub(crate) fn push_mark(text: &str, position: Position, to: &mut String) -> Resu
 
 /// The line, and what stands in it before the place.
 fn marked(text: &str, position: Position) -> Option<(&str, &str)> {
+    let text = text.strip_prefix(MARK).unwrap_or(text);
     let line = text.lines().nth(position.line()?.checked_sub(1)?)?;
     let column = position.position()?.checked_sub(1)?;
     if line.len() > LONGEST {

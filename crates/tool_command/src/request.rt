@@ -50,6 +50,10 @@ pub(crate) struct Request<'a> {
     pub(crate) diff: bool,
     /// Whether findings and refusals are printed as JSON.
     pub(crate) json: bool,
+    /// Whether it is said what is promised of scripts.
+    pub(crate) promise: bool,
+    /// The codes of what is not listed.
+    pub(crate) allowed: Vec<&'a str>,
     /// The constants that are known beforehand, as `NAME=VALUE`.
     pub(crate) constants: Vec<&'a str>,
     /// The files and folders.
@@ -87,6 +91,8 @@ impl<'a> Request<'a> {
             target: target_of(chosen),
             diff: chosen.get_flag("diff"),
             json: chosen.get_flag("json"),
+            promise: chosen.get_flag("promise"),
+            allowed: all(alloc, chosen.get_strs("allow"))?,
             constants: all(alloc, chosen.get_strs("constant"))?,
             files: all(alloc, chosen.get_strs("FILE"))?,
         })
@@ -140,10 +146,22 @@ fn level_named(name: Option<&str>) -> OptimizationLevel {
 
 fn syntax_of(chosen: &ArgMatches<'_>) -> Syntax {
     if chosen.get_flag("notation") {
-        Syntax::Notation
-    } else {
-        Syntax::default()
+        return Syntax::Notation;
     }
+    match chosen.get_one::<usize>("depth") {
+        Some(levels) => nested(levels),
+        None => Syntax::default(),
+    }
+}
+
+/// rhai's own syntax, in which scripts may nest so deep, also in functions.
+fn nested(levels: usize) -> Syntax {
+    let mut syntax = Syntax::default();
+    if let Syntax::Rhai(options) = &mut syntax {
+        options.max_expr_depth = levels;
+        options.max_function_expr_depth = levels;
+    }
+    syntax
 }
 
 fn target_of<'a>(chosen: &ArgMatches<'a>) -> Target<'a> {

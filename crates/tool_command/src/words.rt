@@ -3,6 +3,7 @@
 use clap::{Arg, ArgAction, Command, value_parser};
 use std::alloc::{AllocError, Global};
 use syntax_source::VERSION;
+use tool_findings::FindingKind;
 
 /// The words of all commands.
 pub(crate) fn words<'a>(alloc: Global) -> Result<Command<'a>, AllocError> {
@@ -31,7 +32,8 @@ Examples:
   balvuzsom tree greet.rhai | balvuzsom run --notation -
 
 FILE `-` is standard input, and a folder stands for the files *.rhai in it, at any depth. What is printed of several
-files stands behind lines `// FILE`. Findings and refusals have the form FILE:LINE:COLUMN: TEXT.
+files stands behind lines `// FILE`. Findings and refusals have the form FILE:LINE:COLUMN: TEXT; behind the text of a
+finding stands its code, as [undeclared], and before it `warning: ` where it is no error.
 
 The status is 0; 1 where something was found, a script refused, or a run did not end with a value; 2 for other words,
 for a file that cannot be read or written, and for want of memory.";
@@ -44,6 +46,7 @@ fn optimize<'a>(alloc: Global) -> Result<Command<'a>, AllocError> {
         .arg(diff(alloc))?
         .arg(output(alloc)?)?
         .arg(in_place(alloc))?
+        .arg(depth(alloc)?)?
         .arg(notation(alloc))?
         .arg(files(alloc))
 }
@@ -52,7 +55,10 @@ fn check<'a>(alloc: Global) -> Result<Command<'a>, AllocError> {
     Command::new(alloc, "check")
         .about("List what is wrong with each script")
         .arg(json(alloc))?
+        .arg(allow(alloc))?
+        .arg(promise(alloc))?
         .arg(constant(alloc))?
+        .arg(depth(alloc)?)?
         .arg(notation(alloc))?
         .arg(files(alloc))
 }
@@ -62,7 +68,9 @@ fn run<'a>(alloc: Global) -> Result<Command<'a>, AllocError> {
         .about("Run each script and print a report")
         .arg(entry(alloc))?
         .arg(turns(alloc))?
+        .arg(promise(alloc))?
         .arg(constant(alloc))?
+        .arg(depth(alloc)?)?
         .arg(notation(alloc))?
         .arg(files(alloc))
 }
@@ -70,6 +78,7 @@ fn run<'a>(alloc: Global) -> Result<Command<'a>, AllocError> {
 fn tree<'a>(alloc: Global) -> Result<Command<'a>, AllocError> {
     Command::new(alloc, "tree")
         .about("Print each script's tree")
+        .arg(depth(alloc)?)?
         .arg(notation(alloc))?
         .arg(files(alloc))
 }
@@ -120,6 +129,33 @@ fn json<'a>(alloc: Global) -> Arg<'a> {
         .long("json")
         .action(ArgAction::SetTrue)
         .help("Print each finding and refusal as a line of JSON")
+}
+
+fn allow<'a>(alloc: Global) -> Arg<'a> {
+    Arg::new(alloc, "allow")
+        .long("allow")
+        .value_name("CODE")
+        .value_parser(FindingKind::codes())
+        .action(ArgAction::Append)
+        .help("Do not list what has this code; as often as need be")
+}
+
+fn promise<'a>(alloc: Global) -> Arg<'a> {
+    Arg::new(alloc, "promise")
+        .long("promise")
+        .action(ArgAction::SetTrue)
+        .help("Say what is promised of each script: everything, or until where")
+}
+
+fn depth<'a>(alloc: Global) -> Result<Arg<'a>, AllocError> {
+    Arg::new(alloc, "depth")
+        .long("depth")
+        .value_name("N")
+        .value_parser(value_parser!(usize))
+        .help(
+            "How deep scripts may nest: 64, in functions 32, if nothing is said; 0 is as deep as any is read",
+        )
+        .conflicts_with("notation")
 }
 
 fn notation<'a>(alloc: Global) -> Arg<'a> {

@@ -1,46 +1,9 @@
 //! Statements that never run.
 
-use rhai_ast::{ASTNode, Expr, FlowControl, Stmt, StmtQueries};
+use rhai_ast::{Expr, FlowControl, Stmt};
 
-/// The first statement of a list that stands behind one which leaves the list.
-pub(crate) fn behind_leave(statements: &[Stmt]) -> Option<&Stmt> {
-    let mut is_left = false;
-    for statement in statements {
-        if is_left {
-            return Some(statement);
-        }
-        is_left = statement.is_control_flow_break();
-    }
-    None
-}
-
-/// The lists of statements right in a node.
-pub(crate) fn lists_of<'a>(node: ASTNode<'a>) -> (&'a [Stmt], &'a [Stmt]) {
-    match node {
-        ASTNode::Expr(Expr::Stmt(block)) => (block.get().statements(), &[]),
-        ASTNode::Stmt(Stmt::If(flow, _) | Stmt::TryCatch(flow, _)) => {
-            let flow = flow.get();
-            (flow.body.statements(), flow.branch.statements())
-        }
-        ASTNode::Stmt(Stmt::While(flow, _) | Stmt::Do(flow, _, _)) => {
-            (flow.get().body.statements(), &[])
-        }
-        ASTNode::Stmt(Stmt::For(parts, _)) => (parts.get().2.body.statements(), &[]),
-        ASTNode::Stmt(Stmt::Block(block)) => (block.get().statements(), &[]),
-        _ => (&[], &[]),
-    }
-}
-
-/// The first statement of a block whose condition is a literal that keeps it from running.
-pub(crate) fn behind_literal<'a>(node: ASTNode<'a>) -> Option<&'a Stmt> {
-    match node {
-        ASTNode::Stmt(Stmt::If(flow, _)) => never_chosen(flow.get()),
-        ASTNode::Stmt(Stmt::While(flow, _)) => never_entered(flow.get()),
-        _ => None,
-    }
-}
-
-fn never_chosen(flow: &FlowControl) -> Option<&Stmt> {
+/// The first statement of a block that the literal condition of an `if` keeps from running.
+pub(crate) fn never_chosen(flow: &FlowControl) -> Option<&Stmt> {
     match flow.expr {
         Expr::BoolConstant(true, _) => flow.branch.statements().first(),
         Expr::BoolConstant(false, _) => flow.body.statements().first(),
@@ -48,9 +11,15 @@ fn never_chosen(flow: &FlowControl) -> Option<&Stmt> {
     }
 }
 
-fn never_entered(flow: &FlowControl) -> Option<&Stmt> {
+/// The first statement of a loop that its literal condition keeps from running.
+pub(crate) fn never_entered(flow: &FlowControl) -> Option<&Stmt> {
     match flow.expr {
         Expr::BoolConstant(false, _) => flow.body.statements().first(),
         _ => None,
     }
+}
+
+/// Whether a condition ends no loop: it is `true`, or, of a `loop`, there is none.
+pub(crate) fn is_endless(condition: &Expr) -> bool {
+    matches!(condition, Expr::BoolConstant(true, _) | Expr::Unit(_))
 }

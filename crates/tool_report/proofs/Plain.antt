@@ -1,12 +1,13 @@
 -- No text of a script ends a part of a report.
-use Rattle.std.proofs.Common.{◌≡◌, ℕ, ℤ, pos, negsuc, zero, suc, ◌/◌, ◌%◌, ◌<◌, ◌≤◌, Bool, true, false, ◌&&◌, ◌==◌, nat_lt, List, [], ◌∷◌, ◌++◌, Option, None, Some, codes, map, length, get_or, inl, inr, refl, sym, ap, ◌∙◌, arith, append_assoc, append-nil}
+use Rattle.std.proofs.Common.{◌≡◌, ℕ, ℤ, pos, negsuc, zero, suc, ◌/◌, ◌%◌, ◌<◌, ◌≤◌, ◌+◌, ◌-◌, ◌-ℤ◌, take, drop, replicate, nat_le, Bool, true, false, ◌&&◌, ◌==◌, nat_lt, List, [], ◌∷◌, ◌++◌, Option, None, Some, codes, map, length, get_or, inl, inr, refl, sym, ap, ◌∙◌, arith, append_assoc, append-nil}
 use Rattle.std.proofs.lemmas.Bool.{and_from, and_parts, cases_lt, cond_both, or_parts}
 use Rattle.std.proofs.lemmas.Bool.Decides.{nat_tests}
 use Rattle.std.proofs.lemmas.Str.{encode_ascii, inside_one}
 use Rattle.std.specs.Fmt.{decimal, digit_glyph, digits, digits_onto, signed_decimal}
 use Rattle.std.specs.Prelude.{encode_utf8, if◌then◌else◌}
 use Rattle.std.specs.Str.{chars}
-use Rattle.rhai_base.specs.Value.{Text, Value, UnitV, BoolV, IntV, CharV, TextV, ArrayV, MapV, PointerV, RangeV, RangeInclusiveV, Values, no_values, item, Fields, no_fields, field}
+use Rattle.base_floats.specs.Digits.{float_text, size_text, laid_out, shortest, size, sign, is_plain, plain, scientific, pointed, with_fraction}
+use Rattle.rhai_base.specs.Value.{Text, Value, UnitV, BoolV, IntV, FloatV, CharV, TextV, ArrayV, MapV, PointerV, RangeV, RangeInclusiveV, Values, no_values, item, Fields, no_fields, field}
 use Rattle.theory_meaning.specs.Act as act
 use Rattle.theory_meaning.specs.Act.{is_constant, ScopeEntry, HostCall}
 use Rattle.theory_meaning.specs.Run.{End, WithValue, WithThrown, WithStuck, WithoutTurns, Report}
@@ -74,6 +75,60 @@ signed_part : (n : ℤ) → is_part (signed_decimal n) ≡ true
 signed_part (pos n) = decimal_part n
 signed_part (negsuc n) = decimal_part (suc n)
 
+-- ---- floats
+
+take_part : (n : ℕ) (t : Text) → is_part t ≡ true → is_part (take n t) ≡ true
+take_part zero t h = refl
+take_part (suc n) [] h = refl
+take_part (suc n) (b ∷ bs) h = let p = and_parts _ _ h in and_from _ _ p.0 (take_part n bs p.1)
+
+drop_part : (n : ℕ) (t : Text) → is_part t ≡ true → is_part (drop n t) ≡ true
+drop_part zero t h = h
+drop_part (suc n) [] h = refl
+drop_part (suc n) (b ∷ bs) h = let p = and_parts _ _ h in drop_part n bs p.1
+
+zeros_part : (n : ℕ) → is_part (replicate n 48) ≡ true
+zeros_part zero = refl
+zeros_part (suc n) = and_from _ _ (refl {a = true}) (zeros_part n)
+
+pointed_part : (n : ℕ) (ds : Text) → is_part ds ≡ true → is_part (pointed n ds) ≡ true
+pointed_part n ds h = append_part (take n ds ++ codes ".") (drop n ds) (append_part (take n ds) (codes ".") (take_part n ds h) refl) (drop_part n ds h)
+
+fraction_part : (n : ℕ) (ds : Text) → is_part ds ≡ true → is_part (with_fraction n ds) ≡ true
+fraction_part n ds h =
+    cond_both (nat_lt n (length ds)) _ _ (λ t. is_part t ≡ true) (λ _. pointed_part (length ds - n) ds h)
+    (λ _. append_part (codes "0." ++ replicate (n - length ds) 48) ds (append_part (codes "0.") (replicate (n - length ds) 48) refl (zeros_part (n - length ds))) h)
+
+plain_float_part : (e : ℕ) (ds : Text) → is_part ds ≡ true → is_part (plain e ds) ≡ true
+plain_float_part e ds h =
+    cond_both (nat_lt e 400) _ _ (λ t. is_part t ≡ true) (λ _. fraction_part (400 - e) ds h)
+    (λ _. append_part (ds ++ replicate (e - 400) 48) (codes ".0") (append_part ds (replicate (e - 400) 48) h (zeros_part (e - 400))) refl)
+
+scientific_part : (e : ℕ) (ds : Text) → is_part ds ≡ true → is_part (scientific e ds) ≡ true
+scientific_part e ds h =
+    let power = pos (e + length ds) -ℤ pos 401 in
+    let P : Text → Type 0 = λ t. is_part t ≡ true in
+    let first = cond_both (nat_lt 1 (length ds)) (pointed 1 ds) ds P (λ _. pointed_part 1 ds h) (λ _. h) in
+    append_part ((if nat_lt 1 (length ds) then pointed 1 ds else ds) ++ codes "e") (signed_decimal power)
+    (append_part (if nat_lt 1 (length ds) then pointed 1 ds else ds) (codes "e") first refl) (signed_part power)
+
+laid_out_part : (x : ℕ) (p : ℕ × ℕ) → is_part (laid_out x p) ≡ true
+laid_out_part x p =
+    cond_both (is_plain x) _ _ (λ t. is_part t ≡ true) (λ _. plain_float_part p.0 (decimal p.1) (decimal_part p.1)) (λ _. scientific_part p.0 (decimal p.1) (decimal_part p.1))
+
+size_part : (x : ℕ) → is_part (size_text x) ≡ true
+unfolding size_text
+size_part x = cond_both (x == 0) _ _ (λ t. is_part t ≡ true) (λ _. refl) (λ _. laid_out_part x (shortest x))
+
+sign_part : (x : ℕ) → is_part (sign x) ≡ true
+sign_part x = cond_both (nat_le 0x8000000000000000 x) _ _ (λ t. is_part t ≡ true) (λ _. refl) (λ _. refl)
+
+float_part : (x : ℕ) → is_part (float_text x) ≡ true
+unfolding float_text
+float_part x =
+    cond_both (nat_lt (size x) 0x7ff0000000000000) _ _ (λ t. is_part t ≡ true) (λ _. append_part (sign x) (size_text (size x)) (sign_part x) (size_part (size x)))
+    (λ _. append_part (codes "f64(" ++ decimal x) (codes ")") (append_part (codes "f64(") (decimal x) refl (decimal_part x)) refl)
+
 -- ---- values
 
 mutual
@@ -84,6 +139,7 @@ mutual
   literal_part (BoolV true) = refl
   literal_part (BoolV false) = refl
   literal_part (IntV n) = signed_part n
+  literal_part (FloatV x) = float_part x
   literal_part (CharV c) = append_part (codes "'" ++ escape c) (codes "'") (escape_part c) refl
   literal_part (TextV t) = quoted_part t
   literal_part (ArrayV vs) = append_part (codes "[" ++ literals [] vs) (codes "]") (literals_part [] vs refl) refl

@@ -2,7 +2,7 @@
 use Rattle.std.specs.Prelude.{ℕ, Bool, true, false, List, [], ◌∷◌, ◌++◌, ◌/◌, ◌%◌, codes, encode_utf8, if◌then◌else◌, ◌==◌, ◌||◌, ◌&&◌, nat_lt}
 use Rattle.std.specs.Fmt.{digit_glyph, signed_decimal}
 use Rattle.std.specs.Str.{chars}
-use Rattle.rhai_base.specs.Value.{Text, Value, UnitV, BoolV, IntV, CharV, TextV, ArrayV, MapV, PointerV, RangeV, RangeInclusiveV, Values, no_values, item, Fields, no_fields, field}
+use Rattle.rhai_base.specs.Value.{Text, Value, UnitV, BoolV, IntV, FloatV, CharV, TextV, ArrayV, MapV, PointerV, RangeV, RangeInclusiveV, Values, no_values, item, Fields, no_fields, field, float_text}
 
 -- a letter below 256 by the two digits of its code
 abbrev pub coded : ℕ → Text
@@ -37,6 +37,7 @@ unfoldable mutual
   literal (BoolV true) = codes "true"
   literal (BoolV false) = codes "false"
   literal (IntV n) = signed_decimal n
+  literal (FloatV bits) = float_text bits
   literal (CharV c) = codes "'" ++ escape c ++ codes "'"
   literal (TextV t) = quoted t
   literal (ArrayV vs) = codes "[" ++ literals [] vs ++ codes "]"

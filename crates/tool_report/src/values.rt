@@ -23,6 +23,7 @@ pub(crate) fn push_literal(value: &Dynamic, to: &mut String) -> Result<(), Alloc
         Dynamic::Bool(true) => to.push_str("true"),
         Dynamic::Bool(false) => to.push_str("false"),
         Dynamic::Int(number) => write!(to, "{number}"),
+        Dynamic::Float(float) => write!(to, "{float}"),
         Dynamic::Char(letter) => push_char(*letter, to),
         Dynamic::Str(text) => push_quoted(text.as_str(), to),
         Dynamic::Array(items) => push_array(items.as_slice(), to),

@@ -1,7 +1,7 @@
 -- Runs for single clauses: indices, methods without a place, ranges, loop names, statements without a value, the start.
 use Rattle.std.specs.Prelude.{◌≡◌, ℕ, true, false, List, [], ◌∷◌, Option, Some, None, map, pos, codes, refl}
 use Prim.Native.String.{String}
-use Rattle.rhai_base.specs.Value.{Value, UnitV, BoolV, CharV, TextV, MapV, ArrayV, PointerV, values, field, no_fields}
+use Rattle.rhai_base.specs.Value.{Value, UnitV, BoolV, CharV, TextV, MapV, ArrayV, PointerV, values, field, no_fields, type_name}
 use Rattle.rhai_base.specs.Operators.{Plus, UpTo}
 use Rattle.theory_meaning.specs.Act.{Answers, NoPlace, Unbound, UnboundThis}
 use Rattle.theory_meaning.specs.Run.{AtStatements, Report, End, WithStuck}
@@ -11,7 +11,7 @@ use Rattle.worked_meaning.specs.Runs.{ran_in, ran, report, gives, throws}
 
 -- a host that answers 3, and 4 as the new receiver
 abbrev new_receiver : World
-new_receiver = record { engine = nothing_set; host = record { answer = λ past c. Answers (i 3) (Some (i 4)); module_value = λ x. None; module_of = λ p. None }; functions = [] }
+new_receiver = record { engine = nothing_set; host = record { answer = λ past c. Answers (i 3) (Some (i 4)); module_value = λ x. None; module_of = λ p. None; text = type_name }; functions = [] }
 
 -- ---- indices
 

@@ -1,6 +1,6 @@
 -- Short forms for runs that an evaluator of its own computed: scripts, hosts by the number of past calls, reports.
 use Rattle.std.specs.Prelude.{ℕ, zero, suc, Bool, false, cond, List, [], ◌∷◌, length, Option, None, Some}
-use Rattle.rhai_base.specs.Value.{Text, Value, UnitV, same_text, text_of}
+use Rattle.rhai_base.specs.Value.{Text, Value, UnitV, same_text, text_of, type_name}
 use Rattle.rhai_base.specs.Operators.{computed, on_chars}
 use Rattle.theory_meaning.specs.Act.{ScopeEntry, HostCall, Key, Host, Answer, Answers}
 use Rattle.theory_meaning.specs.Control.{texts_joined}
@@ -75,7 +75,7 @@ value_of [] x = None
 value_of (b ∷ bs) x = cond (same_text b.name x) (Some b.value) (value_of bs x)
 
 abbrev pub host : List Named → List Answer → List Binding → Host
-host ns others bs = record { answer = λ past c. nth (answers_of ns others c.name) (length past); module_value = λ x. value_of bs x; module_of = λ p. None }
+host ns others bs = record { answer = λ past c. nth (answers_of ns others c.name) (length past); module_value = λ x. value_of bs x; module_of = λ p. None; text = type_name }
 
 unfoldable pub ran : Engine → Host → List Function → List Stmt → EntryPoint → List ScopeEntry → ℕ → Report
 unfolding run_script computed on_chars character text_of texts_joined

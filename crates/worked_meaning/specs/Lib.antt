@@ -3,6 +3,7 @@ pub mod ClauseRuns
 pub mod DirectedRuns
 pub mod EntryRuns
 pub mod EvaluatedForms
+pub mod FloatRuns
 pub mod HiddenRuns
 pub mod ModuleRuns
 pub mod MoreRuns

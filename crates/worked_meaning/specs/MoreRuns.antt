@@ -1,6 +1,6 @@
 -- More runs: what the engine's record fixes, calls, and scripts that are optimised elsewhere, as they are written.
 use Rattle.std.specs.Prelude.{◌≡◌, ℕ, true, false, List, [], ◌∷◌, Some, None, pos, codes, refl}
-use Rattle.rhai_base.specs.Value.{UnitV, BoolV, TextV, ArrayV, values}
+use Rattle.rhai_base.specs.Value.{UnitV, BoolV, TextV, ArrayV, values, type_name}
 use Rattle.rhai_base.specs.Operators.{EqualTo, Plus, Minus, Multiply, Divide}
 use Rattle.theory_meaning.specs.Act.{AnswersThrow, WrongKind}
 use Rattle.theory_meaning.specs.Engine.{Engine}
@@ -213,7 +213,7 @@ condition_no_bool : ran (If (int 5) (stmts (ExprStmt (int 1) ∷ [])) no_stmts �
 unfolding ran
 condition_no_bool = refl
 
-host_throws : ran_in (record { engine = nothing_set; host = record { answer = λ past c. AnswersThrow (TextV c.name); module_value = λ x. None; module_of = λ p. None }; functions = [] }) (ExprStmt (op Plus (fn "f" [] ∷ fn "g" [] ∷ [])) ∷ ExprStmt (fn "h" []) ∷ []) 0 ≡ report (WithThrown (TextV (codes "f"))) [] (asked "f" [] ∷ []) 0
+host_throws : ran_in (record { engine = nothing_set; host = record { answer = λ past c. AnswersThrow (TextV c.name); module_value = λ x. None; module_of = λ p. None; text = type_name }; functions = [] }) (ExprStmt (op Plus (fn "f" [] ∷ fn "g" [] ∷ [])) ∷ ExprStmt (fn "h" []) ∷ []) 0 ≡ report (WithThrown (TextV (codes "f"))) [] (asked "f" [] ∷ []) 0
 unfolding ran
 host_throws = refl
 

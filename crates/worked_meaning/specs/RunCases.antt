@@ -1,6 +1,6 @@
 -- Runs for single cases of the definitions: places, receivers, left sides, loops and kinds.
 use Rattle.std.specs.Prelude.{◌≡◌, ℕ, Bool, true, false, List, [], ◌∷◌, Option, Some, None, codes, refl}
-use Rattle.rhai_base.specs.Value.{UnitV, BoolV, CharV, TextV, ArrayV, values}
+use Rattle.rhai_base.specs.Value.{UnitV, BoolV, CharV, TextV, ArrayV, values, type_name}
 use Rattle.rhai_base.specs.Operators.{Plus, Minus, UpTo, Through}
 use Rattle.theory_meaning.specs.Calls.{key}
 use Rattle.theory_meaning.specs.Act.{Unbound, WrongKind, WriteToConstant, NoPlace, CounterTooLarge, Answers, Acts, Only, Fail}
@@ -43,7 +43,7 @@ for_over_ranges = refl
 
 -- a host that answers 3, and 4 as the new receiver
 abbrev new_receiver : World
-new_receiver = record { engine = nothing_set; host = record { answer = λ past c. Answers (i 3) (Some (i 4)); module_value = λ x. None; module_of = λ p. None }; functions = [] }
+new_receiver = record { engine = nothing_set; host = record { answer = λ past c. Answers (i 3) (Some (i 4)); module_value = λ x. None; module_of = λ p. None; text = type_name }; functions = [] }
 
 -- a getter's new receiver, and that of `index$get$`, go
 getter_writes_nothing : (ran_in new_receiver (let' "x" (int 1) ∷ ExprStmt (dot (var "x") (prop "p")) ∷ ExprStmt (at (var "x") (StringConstant (codes "q"))) ∷ ExprStmt (var "x") ∷ []) 0).ended ≡ gives (i 1)
@@ -106,7 +106,7 @@ unfolding ran
 unmapped = refl
 
 -- `switch "a" { "a" if f() => 1, _ => 2 }` where f answers false
-guarded_text_passes : (ran_in (record { engine = nothing_set; host = record { answer = λ past c. Answers (BoolV false) None; module_value = λ x. None; module_of = λ p. None }; functions = [] }) (Switch (StringConstant (codes "a")) (arms ((fn "f" [], int 1) ∷ (BoolConstant true, int 2) ∷ [])) (record { cases = record { value = TextV (codes "a"); arms = 0 ∷ [] } ∷ []; ranges = []; default = Some 1 }) ∷ []) 0).ended ≡ gives (i 2)
+guarded_text_passes : (ran_in (record { engine = nothing_set; host = record { answer = λ past c. Answers (BoolV false) None; module_value = λ x. None; module_of = λ p. None; text = type_name }; functions = [] }) (Switch (StringConstant (codes "a")) (arms ((fn "f" [], int 1) ∷ (BoolConstant true, int 2) ∷ [])) (record { cases = record { value = TextV (codes "a"); arms = 0 ∷ [] } ∷ []; ranges = []; default = Some 1 }) ∷ []) 0).ended ≡ gives (i 2)
 unfolding ran
 guarded_text_passes = refl
 

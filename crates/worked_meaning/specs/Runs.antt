@@ -1,7 +1,7 @@
 -- Runs of small scripts, computed from the definitions alone.
 use Rattle.std.specs.Prelude.{◌≡◌, ℕ, true, false, List, [], ◌∷◌, Some, None, pos, negsuc, codes, refl}
 use Prim.Native.String.{String}
-use Rattle.rhai_base.specs.Value.{Value, UnitV, BoolV, TextV, ArrayV, MapV, values, field, no_fields, text_of}
+use Rattle.rhai_base.specs.Value.{Value, UnitV, BoolV, TextV, ArrayV, MapV, values, field, no_fields, text_of, type_name}
 use Rattle.theory_meaning.specs.Act.{HostCall, ScopeEntry, Unbound, WrongKind, WriteToConstant, Answers}
 use Rattle.rhai_base.specs.Operators.{Plus, Divide, Minus, Multiply, LessOrEqual, Not, computed}
 use Rattle.theory_meaning.specs.Engine.{Engine}
@@ -137,7 +137,7 @@ unfolding ran
 guarded_case_answers = refl
 
 abbrev says_false : World
-says_false = record { engine = nothing_set; host = record { answer = λ past c. Answers (BoolV false) None; module_value = λ x. None; module_of = λ p. None }; functions = [] }
+says_false = record { engine = nothing_set; host = record { answer = λ past c. Answers (BoolV false) None; module_value = λ x. None; module_of = λ p. None; text = type_name }; functions = [] }
 
 guarded_case_passes : ran_in says_false (guarded ∷ []) 0 ≡ report (gives (i 2)) [] (asked "f" [] ∷ []) 0
 unfolding ran

@@ -1,7 +1,7 @@
 -- Short forms for trees that are written by hand, and the host of the program.
 use Rattle.std.specs.Prelude.{ℕ, true, false, List, [], ◌∷◌, ◌++◌, Option, Some, None, codes, if◌then◌else◌}
 use Prim.Native.String.{String}
-use Rattle.rhai_base.specs.Value.{Value, UnitV, BoolV, TextV, ArrayV, items, values, same_text, text_of}
+use Rattle.rhai_base.specs.Value.{Value, UnitV, BoolV, TextV, ArrayV, items, values, same_text, text_of, type_name}
 use Rattle.theory_meaning.specs.Act.{IsVariable, IsConstant, HostCall, ScopeEntry, Host, Answer, Answers}
 use Rattle.theory_meaning.specs.Engine.{Engine}
 use Rattle.theory_meaning.specs.Tree.{Callee, NoToken, Function, Expr, Stmt, Stmts, Variable, FnCall, Dot, Index, Property, MethodCall, exprs, Var, ArrayOf, MapOf, pair, no_pairs}
@@ -62,7 +62,7 @@ program_answer past call =
     (if same_text call.name (codes "push") then pushed call.receiver call.arguments else Answers UnitV None))
 
 abbrev pub program_host : Host
-program_host = record { answer = λ past call. program_answer past call; module_value = λ x. None; module_of = λ p. None }
+program_host = record { answer = λ past call. program_answer past call; module_value = λ x. None; module_of = λ p. None; text = type_name }
 
 -- record, host and functions of a run
 pub record World : Type 0 where

@@ -4,6 +4,7 @@ pub mod WorkedClosure
 pub mod WorkedScopes
 pub mod WorkedRewrites
 pub mod WorkedNodes
+pub mod WorkedFloats
 pub mod WorkedConditions
 pub mod WorkedTables
 pub mod WorkedSwitches

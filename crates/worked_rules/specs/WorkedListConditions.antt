@@ -1,7 +1,7 @@
 -- For conditions of the rules on known names, on lists and blocks, on the bases of chains, on left sides and on assignments: two
 -- scripts that the rule without it would take for one, and what each does.
 use Rattle.std.specs.Prelude.{◌≡◌, ℕ, true, false, [], ◌∷◌, None, codes, refl, List, Some}
-use Rattle.rhai_base.specs.Value.{Text, Value, UnitV, ArrayV, MapV, values, field, no_fields, TextV, PointerV}
+use Rattle.rhai_base.specs.Value.{Text, Value, UnitV, ArrayV, MapV, values, field, no_fields, TextV, PointerV, type_name}
 use Rattle.rhai_base.specs.Operators.{Plus, Minus, computed}
 use Rattle.theory_rewriting.specs.Parts.{named}
 use Rattle.worked_rules.specs.WorkedNodes.{dot, safe, index, property}
@@ -32,7 +32,7 @@ variable_stays = (refl, refl)
 -- a name with a namespace is another one: const x = 1; ns::x, and const x = #{a: 1}; ns::x.a, ns::x["a"], where the host's
 -- modules have a value for ns::x
 abbrev in_module : Value → Host
-in_module v = record { answer = λ past c. Answers UnitV None; module_value = λ y. Some v; module_of = λ p. None }
+in_module v = record { answer = λ past c. Answers UnitV None; module_value = λ y. Some v; module_of = λ p. None; text = type_name }
 
 abbrev of_module : Expr
 of_module = Variable (codes "ns" ∷ []) (codes "x")
@@ -228,11 +228,11 @@ else_outside = (refl, refl)
 -- ---- bases of chains
 
 abbrev answering : Host
-answering = record { answer = λ past c. Answers (i 1) None; module_value = λ y. None; module_of = λ p. None }
+answering = record { answer = λ past c. Answers (i 1) None; module_value = λ y. None; module_of = λ p. None; text = type_name }
 
 -- a base that is no place doesn't become one: let x = 1; (() ?? x).m(), and x.m(), where the method gives its receiver 2
 abbrev renewing : Host
-renewing = record { answer = λ past c. Answers UnitV (Some (i 2)); module_value = λ y. None; module_of = λ p. None }
+renewing = record { answer = λ past c. Answers UnitV (Some (i 2)); module_value = λ y. None; module_of = λ p. None; text = type_name }
 
 abbrev calls_method : Expr → List Stmt
 calls_method e = let' "x" (int 1) ∷ show (Dot dot e (MethodCall (named (codes "m") false) (exprs []))) ∷ []
@@ -287,7 +287,7 @@ assignment_inside = (refl, refl)
 
 -- a method may give its receiver another value: x = x + x.f() where f makes it 5 and answers 1
 abbrev changing : Host
-changing = record { answer = λ past c. Answers (i 1) (Some (i 5)); module_value = λ x. None; module_of = λ p. None }
+changing = record { answer = λ past c. Answers (i 1) (Some (i 5)); module_value = λ x. None; module_of = λ p. None; text = type_name }
 
 abbrev method : Expr
 method = Dot dot (var "x") (MethodCall (named (codes "f") false) (exprs []))

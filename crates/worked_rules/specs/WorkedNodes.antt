@@ -115,12 +115,12 @@ texts_join_row = (in_head (in_expression (by_expr_rule (text_changes texts_join)
 -- `${f()}${()}`
 empty_goes_row : ExprRow (InterpolatedString (exprs (ask ∷ UnitConstant ∷ []))) (InterpolatedString (exprs (ask ∷ []))) (TextV []) asks_f
 unfolding ran texts_joined text_of
-empty_goes_row = (in_head (in_expression (by_expr_rule (text_changes (in_other_parts (empty_goes UnitV refl refl))))), refl, refl)
+empty_goes_row = (in_head (in_expression (by_expr_rule (text_changes (in_other_parts (empty_goes UnitV refl refl refl))))), refl, refl)
 
 -- `${f()}${""}`
 empty_text_row : ExprRow (InterpolatedString (exprs (ask ∷ text "" ∷ []))) (InterpolatedString (exprs (ask ∷ []))) (TextV []) asks_f
 unfolding ran texts_joined text_of
-empty_text_row = (in_head (in_expression (by_expr_rule (text_changes (in_other_parts (empty_goes (TextV []) refl refl))))), refl, refl)
+empty_text_row = (in_head (in_expression (by_expr_rule (text_changes (in_other_parts (empty_goes (TextV []) refl refl refl))))), refl, refl)
 
 -- `a${true}`
 text_folds_row : ExprRow (InterpolatedString (exprs (text "a" ∷ t ∷ []))) (StringConstant (codes "atrue")) (TextV (codes "atrue")) []

@@ -1,6 +1,6 @@
 -- Runs that differ where the closure's conditions don't hold: names that are variables, bases, guards, and calls that capture.
 use Rattle.std.specs.Prelude.{◌≡◌, ℕ, true, false, List, [], ◌∷◌, Some, None, codes, refl}
-use Rattle.rhai_base.specs.Value.{UnitV, ArrayV, values}
+use Rattle.rhai_base.specs.Value.{UnitV, ArrayV, values, type_name}
 use Rattle.theory_meaning.specs.Act.{HostCall, Answers, Host, WrongKind}
 use Rattle.theory_meaning.specs.Run.{End, WithStuck, WithoutTurns}
 use Rattle.theory_meaning.specs.Tree.{NoToken, Expr, DynamicConstant, UnitConstant, Variable, MethodCall, BlockExpr, FnCall, Dot, exprs, Stmt, While, For, Var, Block, TryCatch, ExprStmt, Return, an_expr, no_stmts, stmts, Function}
@@ -59,7 +59,7 @@ capture = (refl, refl)
 
 -- let x = 1; { x }.m(); f(x): a base that becomes a name is changed by its method
 abbrev renewing : Host
-renewing = record { answer = λ past c. Answers UnitV (Some (i 2)); module_value = λ y. None; module_of = λ p. None }
+renewing = record { answer = λ past c. Answers UnitV (Some (i 2)); module_value = λ y. None; module_of = λ p. None; text = type_name }
 
 abbrev based : Expr → List Stmt
 based e = Var false false (codes "x") (int 1) ∷ ExprStmt (Dot (record { negated = false; breaks = true; exported = false }) e (MethodCall (record { namespace = []; name = codes "m"; captures = false; token = NoToken }) (exprs []))) ∷ f x ∷ []

@@ -7,10 +7,12 @@ ghost use Rattle.ast_types.specs.Reading.{expr_of, exprs_of, pairs_of};
 ghost use Rattle.theory_meaning.specs.Constants as constants;
 ghost use Rattle.theory_meaning.specs.Queries as queries;
 
+use crate::queries::floatless::are_floatless;
 use ast_types::Expr;
 use rhai_base::Ident;
 
-/// Whether it is a constant: one of the constant kinds, or an array, a map or a text all of whose parts are.
+/// Whether it is a constant: one of the constant kinds, or an array, a map or a text all of whose parts are, a text's
+/// without a float.
 #[cycle(constant)]
 pub fn is_constant(expr: &Expr) -> bool
     ensures { result ≡ constants.is_constant (expr_of expr.now) }
@@ -19,12 +21,15 @@ pub fn is_constant(expr: &Expr) -> bool
         Expr::DynamicConstant(_, _)
         | Expr::BoolConstant(_, _)
         | Expr::IntegerConstant(_, _)
+        | Expr::FloatConstant(_, _)
         | Expr::CharConstant(_, _)
         | Expr::StringConstant(_, _)
         | Expr::Unit(_) => true,
-        Expr::InterpolatedString(parts, _) | Expr::Array(parts, _) => {
-            are_constant(parts.get().as_slice())
+        Expr::InterpolatedString(parts, _) => {
+            let parts = parts.get().as_slice();
+            are_floatless(parts) && are_constant(parts)
         }
+        Expr::Array(items, _) => are_constant(items.get().as_slice()),
         Expr::Map(map, _) => are_constant_members(map.get().0.as_slice()),
         Expr::Variable(_, _, _)
         | Expr::ThisPtr(_)

@@ -29,6 +29,7 @@ pub fn is_pure_expr(expr: &Expr) -> bool
         Expr::DynamicConstant(_, _)
         | Expr::BoolConstant(_, _)
         | Expr::IntegerConstant(_, _)
+        | Expr::FloatConstant(_, _)
         | Expr::CharConstant(_, _)
         | Expr::StringConstant(_, _)
         | Expr::Unit(_) => true,

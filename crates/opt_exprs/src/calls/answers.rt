@@ -45,6 +45,7 @@ pub(crate) fn pointer_to_value(
         Dynamic::Unit
         | Dynamic::Bool(_)
         | Dynamic::Int(_)
+        | Dynamic::Float(_)
         | Dynamic::Char(_)
         | Dynamic::Array(_)
         | Dynamic::Map(_)

@@ -219,6 +219,7 @@ fn as_pointer(value: &Dynamic) -> Option<&FnPtr>
         Dynamic::Unit
         | Dynamic::Bool(_)
         | Dynamic::Int(_)
+        | Dynamic::Float(_)
         | Dynamic::Char(_)
         | Dynamic::Str(_)
         | Dynamic::Array(_)

@@ -25,6 +25,7 @@ fn is_pointer(value: &Dynamic) -> bool
         Dynamic::Unit
         | Dynamic::Bool(_)
         | Dynamic::Int(_)
+        | Dynamic::Float(_)
         | Dynamic::Char(_)
         | Dynamic::Str(_)
         | Dynamic::Array(_)

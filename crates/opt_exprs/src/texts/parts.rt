@@ -20,6 +20,7 @@ fn is_empty_value(value: &Dynamic) -> bool
         Dynamic::Str(text) => text.as_str().is_empty(),
         Dynamic::Bool(_)
         | Dynamic::Int(_)
+        | Dynamic::Float(_)
         | Dynamic::Char(_)
         | Dynamic::Array(_)
         | Dynamic::Map(_)

@@ -78,6 +78,7 @@ impl ExprQueries for Expr {
             Expr::DynamicConstant(_, _)
             | Expr::BoolConstant(_, _)
             | Expr::IntegerConstant(_, _)
+            | Expr::FloatConstant(_, _)
             | Expr::CharConstant(_, _)
             | Expr::StringConstant(_, _)
             | Expr::InterpolatedString(_, _)

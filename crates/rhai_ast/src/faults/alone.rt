@@ -62,6 +62,7 @@ fn check_expr(alloc: Global, expr: &Expr, around: Around) -> Result<(), TreeFaul
         }
         Expr::BoolConstant(_, _)
         | Expr::IntegerConstant(_, _)
+        | Expr::FloatConstant(_, _)
         | Expr::CharConstant(_, _)
         | Expr::StringConstant(_, _)
         | Expr::InterpolatedString(_, _)

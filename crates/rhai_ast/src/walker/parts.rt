@@ -63,6 +63,7 @@ impl<'a> Parts<'a> {
             Expr::DynamicConstant(_, _)
             | Expr::BoolConstant(_, _)
             | Expr::IntegerConstant(_, _)
+            | Expr::FloatConstant(_, _)
             | Expr::CharConstant(_, _)
             | Expr::StringConstant(_, _)
             | Expr::Unit(_)

@@ -14,6 +14,7 @@ pub(super) fn copy(value: &Dynamic) -> Result<Dynamic, AllocError>
         Dynamic::Unit => Ok(Dynamic::Unit),
         Dynamic::Bool(b) => Ok(Dynamic::Bool(*b)),
         Dynamic::Int(n) => Ok(Dynamic::Int(*n)),
+        Dynamic::Float(x) => Ok(Dynamic::Float(*x)),
         Dynamic::Char(c) => Ok(Dynamic::Char(*c)),
         Dynamic::Str(text) => Ok(Dynamic::Str(text.clone()?)),
         Dynamic::Array(items) => Ok(Dynamic::Array(copy_items(items)?)),

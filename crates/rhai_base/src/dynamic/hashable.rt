@@ -10,7 +10,8 @@ use base_lists::Seq;
 use base_text::StringMap;
 
 impl Dynamic {
-    /// Whether it holds no pointer to a function at any depth, so that it can be a key of a `switch`.
+    /// Whether it holds no pointer to a function and no float at any depth, so that it can be a key of a `switch`. In
+    /// rhai a float can be one.
     #[cycle(hashable)]
     pub fn is_hashable(&self) -> bool
         ensures { result ≡ model.is_hashable (value_of self.now) }
@@ -18,7 +19,7 @@ impl Dynamic {
         match self {
             Dynamic::Array(items) => are_hashable(items),
             Dynamic::Map(members) => have_hashable(members),
-            Dynamic::FnPtr(_) => false,
+            Dynamic::FnPtr(_) | Dynamic::Float(_) => false,
             Dynamic::Unit
             | Dynamic::Bool(_)
             | Dynamic::Int(_)

@@ -1,12 +1,15 @@
 //! Of which kind a value is, and what those of one kind are, under rhai's names.
-ghost use Rattle.std.specs.Prelude.{◌≡◌, ◌≢◌, Bool, false, IsTrue, List, MatchResult, ℕ, ℤ};
+ghost use Rattle.std.specs.Prelude.{◌≡◌, ◌≢◌, Bool, false, IsTrue, List, MatchResult, ℕ, ℤ, from_bits};
+ghost use Rattle.std.specs.Float.{binary64};
 ghost use Rattle.rhai_base.specs.declared.dynamic.Dynamic.TheVariants as kind;
 ghost use Rattle.rhai_base.specs.declared.dynamic.Dynamic.{Dynamic as dynamic};
+ghost use Rattle.rhai_base.specs.declared.float_wrapper.FloatWrapper.{FloatWrapper as float};
 ghost use Rattle.rhai_base.specs.declared.fn_ptr.FnPtr.{FnPtr as pointer};
 ghost use Rattle.rhai_base.specs.Value as model;
 ghost use Rattle.rhai_base.specs.Reading.{value_of};
 
 use crate::dynamic::{Dynamic, INT};
+use crate::{FLOAT, FloatWrapper};
 use base_text::{ImmutableString, StringMap};
 
 impl Dynamic {
@@ -24,6 +27,14 @@ impl Dynamic {
         ensures no { result ≡ false → (n : ℤ) → self.now ≢ kind.Int n }
     {
         matches!(self, Dynamic::Int(_))
+    }
+
+    /// Whether it is a float.
+    pub fn is_float(&self) -> bool
+        ensures yes { IsTrue result → (x : float) × (self.now ≡ kind.Float x) }
+        ensures no { result ≡ false → (x : float) → self.now ≢ kind.Float x }
+    {
+        matches!(self, Dynamic::Float(_))
     }
 
     /// Whether it is a character.
@@ -84,6 +95,17 @@ impl Dynamic {
     {
         match self {
             Dynamic::Int(value) => Ok(*value),
+            other => Err(other.type_name()),
+        }
+    }
+
+    /// The float that it is, else the name of its type.
+    pub fn as_float(&self) -> Result<FLOAT, &'static str>
+        ensures { MatchResult result (λ f. (x : float) × (self.now ≡ kind.Float x) × (f ≡ from_bits binary64 x.bits))
+            (λ name. (name.now ≡ model.type_name (value_of self.now)) × ((x : float) → self.now ≢ kind.Float x)) }
+    {
+        match self {
+            Dynamic::Float(value) => Ok(value.value()),
             other => Err(other.type_name()),
         }
     }

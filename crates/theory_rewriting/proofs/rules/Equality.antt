@@ -3,7 +3,7 @@ use Rattle.std.proofs.Common.{◌≡◌, ℕ, Bool, true, false, refl, ap}
 use Rattle.std.specs.Prelude.{ℤ, pos, negsuc, ◌==◌, ◌&&◌}
 use Rattle.std.proofs.lemmas.Bool.Decides.{Decides-eqb}
 use Rattle.std.proofs.lemmas.Slice.Eq.{bytes_eq-Decides}
-use Rattle.rhai_base.specs.Value.{Text, Value, UnitV, BoolV, IntV, CharV, TextV, ArrayV, MapV, PointerV, RangeV, RangeInclusiveV, Values, no_values, item, Fields, no_fields, field, same_text, same_int, same_bool, same, same_items, same_fields}
+use Rattle.rhai_base.specs.Value.{Text, Value, UnitV, BoolV, IntV, FloatV, CharV, TextV, ArrayV, MapV, PointerV, RangeV, RangeInclusiveV, Values, no_values, item, Fields, no_fields, field, same_text, same_int, same_bool, same, same_items, same_fields}
 
 false_true : (A : Type 0) → false ≡ true → A
 false_true A h = absurd (let z : false ≡ true = h in cc)
@@ -35,6 +35,7 @@ mutual
   same_is UnitV UnitV h = refl
   same_is (BoolV a) (BoolV b) h = ap BoolV (bool_is a b h)
   same_is (IntV a) (IntV b) h = ap IntV (int_is a b h)
+  same_is (FloatV a) (FloatV b) h = ap FloatV (nat_is a b h)
   same_is (CharV a) (CharV b) h = ap CharV (nat_is a b h)
   same_is (TextV a) (TextV b) h = ap TextV (text_is a b h)
   same_is (ArrayV a) (ArrayV b) h = ap ArrayV (items_are a b h)

@@ -14,7 +14,7 @@ use Rattle.theory_meaning.specs.Meaning.{module_known, module_at, exporting, act
 use Rattle.theory_meaning.specs.Places.{Current, refreshed}
 use Rattle.theory_meaning.specs.Plain.{all_true}
 use Rattle.theory_meaning.specs.Shape.{is_unit, is_map, is_chain, is_callable, is_left_side, is_table, catch_name}
-use Rattle.theory_meaning.specs.Tree.{Callee, PropertyNames, ChainFlags, SwitchTable, Expr, DynamicConstant, BoolConstant, IntegerConstant, CharConstant, StringConstant, UnitConstant, InterpolatedString, ArrayOf, MapOf, Variable, ThisPtr, Property, MethodCall, BlockExpr, FnCall, Dot, Index, And, Or, Coalesce, Exprs, no_exprs, expr, count_exprs, Pairs, no_pairs, pair, MaybeExpr, no_expr, an_expr, Arms, no_arms, arm, Stmt, Noop, If, Switch, While, Do, For, Var, Assignment, FnCallStmt, Block, TryCatch, ExprStmt, BreakLoop, Return, Import, Export, Share, Stmts, no_stmts, stmt}
+use Rattle.theory_meaning.specs.Tree.{Callee, PropertyNames, ChainFlags, SwitchTable, Expr, DynamicConstant, BoolConstant, IntegerConstant, CharConstant, StringConstant, UnitConstant, InterpolatedString, ArrayOf, MapOf, Variable, ThisPtr, Property, MethodCall, BlockExpr, FnCall, Dot, Index, And, Or, Coalesce, Exprs, no_exprs, expr, count_exprs, Pairs, no_pairs, pair, MaybeExpr, no_expr, an_expr, Arms, no_arms, arm, Stmt, Noop, If, Switch, While, Do, For, Var, Assignment, FnCallStmt, Block, TryCatch, ExprStmt, BreakLoop, Return, Import, Export, Share, Stmts, no_stmts, stmt, FloatConstant}
 use Rattle.theory_meaning.specs.Walk.{Walk, Node, OfExpr, OfStmt, parts_of_expr, parts_of_stmt, over_expr, over_exprs, over_pairs, over_maybe, over_arms, over_stmt, over_stmts, arm_at, arms_at, arm_of_default, listed}
 use Rattle.theory_meaning.proofs.PureTrees.{split}
 use Rattle.theory_rewriting.proofs.rules.Arms.{AllArms, all_chosen, all_default}
@@ -243,6 +243,7 @@ module _ (w : World) (C : Act → Type 0) (D : Acts → Type 0) (P : Node → Bo
     expr_held l (DynamicConstant v) h = constant_held (is_unit v) v
     expr_held l (BoolConstant b) h = g.gives _
     expr_held l (IntegerConstant n) h = g.gives _
+    expr_held l (FloatConstant x) h = g.gives _
     expr_held l (CharConstant c) h = g.gives _
     expr_held l (StringConstant t) h = g.gives _
     expr_held l UnitConstant h = g.gives _

@@ -1,20 +1,21 @@
 -- Constants give their values, or are stuck where a node has no meaning.
 use Rattle.std.proofs.Common.{◌≡◌, ℕ, Bool, true, false, cond, List, ◌∷◌, Option, Some, None, refl, sym, ap, ◌∙◌, subst}
-use Rattle.rhai_base.specs.Value.{Text, Value, TextV, ArrayV, MapV, PointerV, values}
+use Rattle.rhai_base.specs.Value.{Text, Value, TextV, ArrayV, MapV, PointerV, values, text_of}
 use Rattle.rhai_base.specs.Operators.{Operator, Computed, NoEntry, Is, Overflows, symbol}
 use Rattle.theory_meaning.specs.Engine.{built_in}
 use Rattle.theory_meaning.specs.Act.{World, Store, Gives, WrongKind, IsStuck, Ended, Halted, Result, At, Act, Env, and_then, run}
 use Rattle.theory_meaning.specs.ActForms.{give, value_then, branch, truth}
 use Rattle.theory_meaning.specs.Calls.{of_table, called}
-use Rattle.theory_meaning.specs.Constants.{computed_value, array_value, map_value, joined_value, value_and, entry_and, constant_value, constant_values, constant_entries, truth_of, constant_for}
+use Rattle.theory_meaning.specs.Constants.{computed_value, array_value, map_value, joined_value, value_and, entry_and, constant_value, constant_values, constant_entries, truth_of, constant_for, are_floatless, where_floatless}
 use Rattle.theory_meaning.specs.Core.{OnOperator, Ill, Constant, InterpolatedString, ArrayOf, MapOf, FnCall}
 use Rattle.theory_meaning.specs.Desugar.{callee_by, core_expr, core_exprs, core_pairs}
 use Rattle.theory_meaning.specs.Shape.{is_unit, is_map}
-use Rattle.theory_meaning.specs.Control.{texts_joined}
+use Rattle.theory_meaning.specs.Control.{texts_joined, text_in}
 use Rattle.theory_meaning.specs.Elements.{fields_of}
-use Rattle.theory_meaning.specs.Meaning.{act, with_args, with_pairs}
+use Rattle.theory_meaning.specs.Meaning.{act, with_args, with_pairs, text}
 use Rattle.theory_meaning.specs.Relations.{Begins, calls_of}
 use Rattle.theory_meaning.specs.Tree as tree
+use Rattle.theory_meaning.proofs.Floatless.{texts_constant}
 use Rattle.theory_rewriting.specs.Folding.{folded_values}
 use Rattle.theory_rewriting.proofs.Plain.{is_plain_value}
 use Rattle.theory_soundness.proofs.simulation.Simulation.{OrStuck, equal, is_stuck}
@@ -65,9 +66,11 @@ module _ (w : World) (env : Env) (loop : Bool) where
   given_array None es s t h = tt
   given_array (Some vs) es s t h = h
 
-  given_text : (o : Option (List Value)) (es : tree.Exprs) (s : Store) (t : ℕ) → GivenAll o es (λ vs. give (TextV (texts_joined vs))) s t → Given (joined_value o) (run w env (act w (InterpolatedString (core_exprs loop es))) s t) s t
-  given_text None es s t h = tt
-  given_text (Some vs) es s t h = h
+  given_text : (b : Bool) (o : Option (List Value)) (es : tree.Exprs) (s : Store) (t : ℕ) → ((vs : List Value) → where_floatless b o ≡ Some vs → texts_joined (text_in w.host) vs ≡ texts_joined text_of vs) → GivenAll o es (text w) s t → Given (joined_value (where_floatless b o)) (run w env (act w (InterpolatedString (core_exprs loop es))) s t) s t
+  given_text true None es s t q h = tt
+  given_text false None es s t q h = tt
+  given_text false (Some vs) es s t q h = tt
+  given_text true (Some vs) es s t q h = subst (λ x. OrWrong (run w env (act w (InterpolatedString (core_exprs loop es))) s t) (At (Ended (Gives (TextV x))) s t) s t) (q vs refl) h
 
   -- where there are entries, what comes after the pairs has them
   abbrev pub GivenPairs : Option (List (Text × Value)) → tree.Pairs → (List (Text × Value) → Act) → Store → ℕ → Type 0
@@ -97,10 +100,11 @@ module _ (w : World) (env : Env) (loop : Bool) where
     pub expr_given : (e : tree.Expr) (s : Store) (t : ℕ) → Given (constant_value e) (run w env (act w (core_expr loop e)) s t) s t
     expr_given (tree.DynamicConstant v) s t = given_own (is_unit v) v s t
     expr_given (tree.ArrayOf es) s t = given_array (constant_values es) es s t (exprs_given es (λ vs. give (ArrayV (values vs))) s t)
-    expr_given (tree.InterpolatedString es) s t = given_text (constant_values es) es s t (exprs_given es (λ vs. give (TextV (texts_joined vs))) s t)
+    expr_given (tree.InterpolatedString es) s t = given_text (are_floatless es) (constant_values es) es s t (λ vs q. texts_constant w.host es vs q) (exprs_given es (text w) s t)
     expr_given (tree.MapOf ps template) s t = given_map (is_map template ps) (constant_entries ps) ps s t (pairs_given ps (λ vs. give (MapV (fields_of vs))) s t)
     expr_given (tree.BoolConstant b) s t = is refl
     expr_given (tree.IntegerConstant n) s t = is refl
+    expr_given (tree.FloatConstant x) s t = is refl
     expr_given (tree.CharConstant c) s t = is refl
     expr_given (tree.StringConstant x) s t = is refl
     expr_given tree.UnitConstant s t = is refl

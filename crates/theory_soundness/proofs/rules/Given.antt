@@ -3,7 +3,7 @@ use Rattle.std.proofs.Common.{◌≡◌, ℕ, Bool, true, false, cond, List, Opt
 use Rattle.rhai_base.specs.Value.{Text, Value, UnitV, BoolV}
 use Rattle.theory_meaning.specs.Act.{Store, Gives, WrongKind, Ended, Result, At, Act, Env, and_then, run}
 use Rattle.theory_meaning.specs.ActForms.{give, value_then, ◌>>=◌, branch, truth, if_true, choose}
-use Rattle.theory_meaning.specs.Constants.{array_value, map_value, joined_value, constant_value, constant_values, constant_entries, constant_bool, truth_of}
+use Rattle.theory_meaning.specs.Constants.{array_value, map_value, joined_value, constant_value, constant_values, constant_entries, constant_bool, truth_of, text_constants}
 use Rattle.theory_meaning.specs.Core as core
 use Rattle.theory_meaning.specs.Desugar.{core_expr, core_exprs, core_pairs}
 use Rattle.theory_meaning.specs.Meaning.{act, deed, with_args, with_pairs}
@@ -103,7 +103,7 @@ no_map (Some vs) b h = no_bool b h
 pub bool_core : (loop : Bool) (e : Expr) (b : Bool) → constant_bool e ≡ Some b → core_expr loop e ≡ core.Constant (BoolV b)
 bool_core loop (DynamicConstant v) b h = value_core loop v b h
 bool_core loop (BoolConstant a) b h = ap (λ x. core.Constant (BoolV x)) (bool_is a b h)
-bool_core loop (InterpolatedString es) b h = no_text (constant_values es) b h
+bool_core loop (InterpolatedString es) b h = no_text (text_constants es) b h
 bool_core loop (ArrayOf es) b h = no_array (constant_values es) b h
 bool_core loop (MapOf ps template) b h = no_map (constant_entries ps) b h
 bool_core loop _ b h = no_bool b h

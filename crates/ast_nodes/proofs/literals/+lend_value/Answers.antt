@@ -6,7 +6,7 @@ use Rattle.base_tokens.specs.declared.ident.Ident.{Ident}
 use Rattle.ast_types.specs.declared.expr.Expr.{Expr}
 use Rattle.rhai_base.specs.Reading.{members_of, value_of, value_of-Array, value_of-Map, value_of-Str}
 use Rattle.rhai_base.specs.Value.{ArrayV, TextV, fields, values}
-use Rattle.theory_meaning.specs.Constants.{array_value, value_and, entry_and, constant_value, constant_values, constant_entries}
+use Rattle.theory_meaning.specs.Constants.{array_value, joined_value, where_floatless, value_and, entry_and, constant_value, constant_values, constant_entries}
 use Rattle.ast_nodes.specs.Lent.{lent_value}
 use Rattle.ast_types.specs.Reading.{expr_of, exprs_of, pairs_of}
 use Rattle.ast_types.proofs.ItemLists.{exprs_of-drop, pairs_of-drop}
@@ -33,7 +33,7 @@ array_value-loop-item-preserved t c =
 pub joined_value-returns : goal.joined_value-returns
 joined_value-returns t c =
     let all = joined_from-all c.args.parts.now c.loop-part.part-index _ (omega (arith, c.loop-part-test.false, c.loop-part.auto.part-index-end)) c.loop-part.invariant in
-    ap Some (value_of-Str _) ∙ ap (λ u. Some (TextV u)) c.in_ok-text.ensures ∙ sym all
+    ap Some (value_of-Str _) ∙ ap (λ u. Some (TextV u)) c.in_ok-text.ensures ∙ sym all ∙ ap (λ b. joined_value (where_floatless b (constant_values (exprs_of c.args.parts.now)))) (sym (sym c.are_floatless.ensures ∙ c.if-not-are_floatless.false))
 
 pub map_value-returns : goal.map_value-returns
 map_value-returns t c =

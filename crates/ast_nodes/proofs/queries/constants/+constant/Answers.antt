@@ -13,3 +13,13 @@ are_constant_members-loop-member-preserved t c =
     ∙ members-drop c.args.members.now c.loop-member.member-index c.member-item.result c.loop-member-test.true
     ∙ ap (λ (m : Ident × Expr). is_constant (expr_of m.1) && rest) (sym c.member-item.is)
     ∙ ap (λ b. b && rest) (sym c.is_constant.ensures ∙ c.if-not-is_constant.false)
+
+pub are_constant_members-returns-then-not-is_constant : goal.are_constant_members-returns-then-not-is_constant
+are_constant_members-returns-then-not-is_constant t c =
+    let rest = members_constant (drop (c.loop-member.member-index + 1) c.args.members.now) in
+    let all =
+    c.loop-member.invariant
+    ∙ members-drop c.args.members.now c.loop-member.member-index c.member-item.result c.loop-member-test.true
+    ∙ ap (λ (m : Ident × Expr). is_constant (expr_of m.1) && rest) (sym c.member-item.is)
+    ∙ ap (λ b. b && rest) (sym c.is_constant.ensures ∙ c.if-not-is_constant.true) in
+    sym all

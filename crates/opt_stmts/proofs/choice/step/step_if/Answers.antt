@@ -2,13 +2,22 @@ use Rattle.std.proofs.Common.{◌≡◌, true, false, sym, ap, ◌∙◌}
 use Rattle.ast_types.specs.declared.stmt.FlowControl.{FlowControl}
 use Rattle.ast_types.specs.Reading.{expr_of, stmt_of, stmts_of, stmt_of-If}
 use Rattle.ast_types.proofs.Cases.{stmt_cases}
+use Rattle.theory_meaning.specs.Constants.{constant_bool}
 use Rattle.opt_base.proofs.Stepping.{stmt_put, stmt_rewrite_as}
 use Rattle.opt_stmts.specs.Flows.{if_of}
 use Rattle.opt_stmts.specs.SettledChoices.{is_nest}
+use Rattle.opt_stmts.proofs.Choosing.{settled_if}
 use Rattle.opt_stmts.proofs.FiredStatements.{fires_by}
 use Rattle.opt_stmts.proofs.OtherChoices.{no_if}
 use Rattle.opt_stmts.proofs.Settled.{if_kept}
 use Rattle.opt_stmts.proofs.choice.step.step_if.Goals as goal
+
+pub join_ifs-requires : goal.join_ifs-requires
+join_ifs-requires c =
+    let f = c.get_mut.result.now in
+    let q = rw c.in-None.is at c.in_ok-made-in-If.ensures in
+    let same = c.get_mut-in-None.ensures.value ∙ q.1 in
+    record { undecided = ap (λ (g : FlowControl). constant_bool (expr_of g.expr)) same ∙ settled_if (expr_of f.expr) (stmts_of f.body.block) (stmts_of f.branch.block) q.0 }
 
 pub returns-then-not-branch-clause-step : goal.returns-then-not-branch-clause-step
 returns-then-not-branch-clause-step c =

@@ -53,7 +53,7 @@ use Rattle.run_evaluator.proofs.Words.{call_asks, word_asks, word_gives, word_na
 use Rattle.run_evaluator.proofs.Operands.{args_start, args_next, args_stop, args_end, operands_start, both_stops, both_stuck, both_false, both_next, both_end, either_stops, either_stuck, either_true, either_next, either_end, first_stops, first_value, first_next, first_end}
 use Rattle.run_steps.proofs.Roots.{assign_runs, assign_stops, assign_stuck, unit_value}
 use Rattle.run_state.proofs.Statements.{stmts_start, stmts_next, stmts_stop, stmts_end, block_runs, body_runs, branch_runs, condition_stops, condition_stuck}
-use Rattle.run_evaluator.proofs.Switches.{arm_false, arm_leaves, arm_missing, arm_past, arm_stops, arm_stuck, arm_there, arm_true, arms_default, arms_end, arms_stop, default_missing, default_runs, places_end, places_ends, no_range, places_next, places_stops, range_at, ranges_end, ranges_ends, ranges_next, ranges_stops}
+use Rattle.run_evaluator.proofs.Switches.{arm_false, arm_leaves, arm_missing, arm_past, arm_stops, arm_stuck, arm_there, arm_true, arms_default, arms_end, arms_stop, default_missing, default_runs, places_end, places_ends, no_range, places_next, places_stops, range_at, ranges_end, ranges_ends, ranges_next, ranges_stops, range_misses}
 use Rattle.run_evaluator.proofs.Weights.{arm_weight, arms_weight, expr_item, level, level_falls, member_item, stmt_item}
 use Rattle.run_state.proofs.Rounds.{loop_start}
 use Rattle.run_state.proofs.Loops.{round_runs, round_turns, endless_stops, endless_ends, endless_next, while_stops, while_stuck, guard_late, guard_over, guard_leaves, guard_ends, guard_falls, guard_next, loop_always, loop_when, do_stops, do_ends, do_guard_stops, do_guard_stuck, do_over, do_next}
@@ -432,6 +432,10 @@ first_range-returns-in_err-value g t c = let p = err_from_is_err_and c.from_resi
 
 pub first_range-returns-in-Some : goal.first_range-returns-in-Some
 first_range-returns-in-Some g t c = ranges_ends (setting g.H.Host.answers g.H.Host.modules c.args.self.now.machine) c.args.self.now.in_loop c.args.arms.now (value_of c.args.subject.now) (map range_of c.args.ranges.now) (map range_of (drop c.loop-range.range-index c.args.ranges.now)) (map range_of (drop (c.loop-range.range-index + 1) c.args.ranges.now)) (range_of (get_or c.args.ranges.now c.loop-range.range-index no_range)) c.args.state.now c.loop-range.state c.range_arm.new.state (range_at c.args.ranges.now c.loop-range.range-index c.loop-range-test.true) c.loop-range.invariant c.in-Some.value (rw c.in-Some.is at c.in_ok-value.ensures)
+
+pub range_arm-returns-else-contains : goal.range_arm-returns-else-contains
+range_arm-returns-else-contains g t c =
+    range_misses (setting g.H.Host.answers g.H.Host.modules c.args.self.now.machine) c.args.self.now.in_loop c.args.arms.now c.args.range.now (value_of c.args.subject.now) c.args.state.now (sym c.if-contains.false ∙ c.contains.ensures)
 
 pub first_range-loop-range-preserved : goal.first_range-loop-range-preserved
 first_range-loop-range-preserved g t c = ranges_next (setting g.H.Host.answers g.H.Host.modules c.args.self.now.machine) c.args.self.now.in_loop c.args.arms.now (value_of c.args.subject.now) (map range_of c.args.ranges.now) (map range_of (drop c.loop-range.range-index c.args.ranges.now)) (map range_of (drop (c.loop-range.range-index + 1) c.args.ranges.now)) (range_of (get_or c.args.ranges.now c.loop-range.range-index no_range)) c.args.state.now c.loop-range.state c.range_arm.new.state (range_at c.args.ranges.now c.loop-range.range-index c.loop-range-test.true) c.loop-range.invariant (rw c.in_default.is at c.in_ok-value.ensures)
