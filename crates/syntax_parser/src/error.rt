@@ -120,6 +120,9 @@ pub enum ParseErrorType {
     /// The tree would not be well-formed. No text is known that comes to this.
     #[error("{0}")]
     IllFormed(TreeFault),
+    /// By the grammar the text does not spell what was read. No text is known that comes to this.
+    #[error("this is a fault of the reader, please report it: the text does not spell what was read")]
+    NotAsRead,
     /// There was no memory.
     #[error("out of memory")]
     OutOfMemory,

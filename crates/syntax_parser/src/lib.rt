@@ -8,6 +8,7 @@ mod chains;
 mod closures;
 mod declarations;
 mod error;
+mod errors;
 mod exits;
 mod expressions;
 mod flow;
@@ -26,5 +27,6 @@ mod texts;
 mod variables;
 
 pub use error::{LexError, ParseError, ParseErrorType};
+pub use errors::parse_errors;
 pub use options::ParseOptions;
 pub use script::{compile, compile_expression, compile_expression_with, compile_with};

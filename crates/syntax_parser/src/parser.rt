@@ -25,6 +25,8 @@ pub(crate) struct Parser<'a> {
     place: Cell<Place<'a>>,
     next: Cell<Option<Lexed<'a>>>,
     fault: Cell<Option<ParseError>>,
+    /// Where the statement or function of the top level begins that is read.
+    begun: Cell<Position>,
     /// The script's doc text.
     doc: Cell<Option<String>>,
     pub(crate) variables: Variables<'a>,
@@ -53,6 +55,7 @@ impl<'a> Parser<'a> {
             place: Cell::new(Place::of_script(text)),
             next: Cell::new(None),
             fault: Cell::new(None),
+            begun: Cell::new(Position::NONE),
             doc: Cell::new(None),
             variables: Variables::new(alloc),
             table: RefCell::new(Table::new(alloc, options.first_closure)),
@@ -152,6 +155,16 @@ impl<'a> Parser<'a> {
         made.ok()
     }
 
+    /// Notes that a statement or function of the top level begins.
+    pub(crate) fn begin(&self) {
+        self.begun.set(self.here());
+    }
+
+    /// Where the last statement or function of the top level begins that was read.
+    pub(crate) fn begun(&self) -> Position {
+        self.begun.get()
+    }
+
     /// What was read for the whole script, or the fault.
     pub(crate) fn into_whole(self) -> Result<Whole, ParseError> {
         let Parser {
@@ -161,6 +174,7 @@ impl<'a> Parser<'a> {
             place: _place,
             next: _next,
             fault,
+            begun: _begun,
             doc,
             variables: _variables,
             table,

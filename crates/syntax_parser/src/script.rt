@@ -3,6 +3,7 @@
 ghost use Rattle.std.specs.Prelude.{◌≡◌, IfOk, None};
 ghost use Rattle.rhai_script.specs.Script.{script_of};
 ghost use Rattle.theory_meaning.specs.Faults.{script_fault};
+ghost use Rattle.theory_grammar.specs.Covered.{IsOneExpression};
 
 use crate::error::{ParseError, ParseErrorType};
 use crate::inside::Inside;
@@ -12,8 +13,9 @@ use rhai_ast::{Stmt, TreeError};
 use rhai_base::{OutOfMemory, Position, TreeFault};
 use rhai_script::AST;
 use script_tables::FnLib;
-use std::alloc::Global;
+use std::alloc::{AllocError, Global};
 use std::rc::Rc;
+use syntax_grammar::is_one_expression;
 
 /// The script of a text in rhai's own syntax, as docs/SYNTAX.md has it. Its nodes stand where the text's do, its
 /// functions are in the order in which they end, and what it answers is well-formed. Closures that are the same but for
@@ -37,9 +39,10 @@ pub fn compile_with(alloc: Global, text: &str, options: ParseOptions) -> Result<
 }
 
 /// The script of one expression, without blocks, loops and closures, in which `if` and `switch` have expressions and
-/// assignments in their blocks. As `Engine::compile_expression` of rhai.
+/// assignments in their blocks. As `Engine::compile_expression` of rhai. Where the grammar covers it, the text spells it.
 pub fn compile_expression(alloc: Global, text: &str) -> Result<AST, ParseError>
-    ensures { IfOk result (λ script. script_fault (script_of script) ≡ None) }
+    ensures faultless { IfOk result (λ script. script_fault (script_of script) ≡ None) }
+    ensures spelled { IfOk result (λ script. IsOneExpression text.now (script_of script).statements) }
 {
     compile_expression_with(alloc, text, ParseOptions::new())
 }
@@ -50,11 +53,17 @@ pub fn compile_expression_with(
     text: &str,
     options: ParseOptions,
 ) -> Result<AST, ParseError>
-    ensures { IfOk result (λ script. script_fault (script_of script) ≡ None) }
+    ensures faultless { IfOk result (λ script. script_fault (script_of script) ≡ None) }
+    ensures spelled { IfOk result (λ script. IsOneExpression text.now (script_of script).statements) }
 {
     let parser = Parser::new(alloc, text, options, true);
     let statements = parser.one_expression(Inside::script(options.levels()));
-    finished(alloc, statements, parser.into_whole())
+    let script = finished(alloc, statements, parser.into_whole())?;
+    match is_one_expression(alloc, text, script.statements()) {
+        Ok(true) => Ok(script),
+        Ok(false) => Err(ParseError(ParseErrorType::NotAsRead, Position::NONE)),
+        Err(AllocError) => Err(ParseError(ParseErrorType::OutOfMemory, Position::NONE)),
+    }
 }
 
 /// The script of what was read, which is tested.

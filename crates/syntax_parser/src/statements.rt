@@ -15,6 +15,7 @@ impl<'a> Parser<'a> {
             if self.is_at_end() {
                 break;
             }
+            self.begin();
             self.top(&mut statements, inside);
         }
         statements

@@ -9,6 +9,7 @@ mod merged;
 mod optimized;
 mod printed;
 mod reader;
+mod reasons;
 mod refusal;
 mod syntax;
 
@@ -19,6 +20,7 @@ pub use merged::merge;
 pub use optimized::{OptimizedText, optimize_text, optimize_text_by};
 pub use printed::{Written, push_source, source, source_by};
 pub use reader::Reader;
+pub use reasons::refusals;
 pub use refusal::{Refusal, Why};
 pub use syntax::{Syntax, read, write};
 pub use syntax_print::{SpellError, Unspelled};

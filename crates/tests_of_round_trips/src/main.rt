@@ -3,6 +3,7 @@
 #![tactic(auto)]
 
 mod changed;
+mod ends;
 mod groups;
 mod merged;
 mod runs;
@@ -32,6 +33,7 @@ fn ask(rt: &HostRuntime, question: &str, name: &str) -> io::Result<()> {
     let rows = rows.as_str();
     match question {
         "texts" => say(rt, texts::ask(rt.alloc(), rows)),
+        "ends" => say(rt, ends::ask(rt.alloc(), rows)),
         "changed" => say(rt, changed::ask(rt.alloc(), rows)),
         "merged" => say(rt, merged::ask(rt.alloc(), rows)),
         "pairs" => say(rt, merged::ask_pairs(rt.alloc(), rows)),

@@ -53,6 +53,7 @@ fn ask(rt: &HostRuntime, question: &str, name: &str) -> io::Result<()> {
         "trees" => say(rt, ask_blocks(rt.alloc(), &Question::Tree, rows)),
         "expressions" => say(rt, ask_blocks(rt.alloc(), &Question::Expression, rows)),
         "numbered" => say(rt, ask_blocks(rt.alloc(), &Question::Numbered, rows)),
+        "faults" => say(rt, ask_blocks(rt.alloc(), &Question::Faults, rows)),
         "bad" => say(rt, ask_blocks(rt.alloc(), &Question::Refusal, rows)),
         "places" => say(rt, ask_blocks(rt.alloc(), &Question::Places, rows)),
         "runs" => say(rt, runs::ask(rt.alloc(), rows)),

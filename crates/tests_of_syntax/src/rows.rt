@@ -17,6 +17,8 @@ pub(crate) enum Question {
     Places,
     /// Where and why it is refused.
     Refusal,
+    /// The same of all faults that are found.
+    Faults,
 }
 
 impl BlockQuestion for Question {
@@ -27,6 +29,7 @@ impl BlockQuestion for Question {
             Question::Numbered => "numbered",
             Question::Places => "places",
             Question::Refusal => "bad texts",
+            Question::Faults => "faults",
         }
     }
 
@@ -37,15 +40,18 @@ impl BlockQuestion for Question {
             Question::Numbered => trees::told_numbered(alloc, text),
             Question::Places => places::told(alloc, text),
             Question::Refusal => bad::told(alloc, text),
+            Question::Faults => bad::told_all(alloc, text),
         }
     }
 
     /// Of a refused text the head says it.
     fn wanted<'a>(&self, block: Block<'a>) -> &'a str {
         match self {
-            Question::Tree | Question::Expression | Question::Numbered | Question::Places => {
-                block.wanted
-            }
+            Question::Tree
+            | Question::Expression
+            | Question::Numbered
+            | Question::Places
+            | Question::Faults => block.wanted,
             Question::Refusal => block.head,
         }
     }

@@ -7,9 +7,10 @@ use crate::line_ends::ended_as;
 use crate::listed::Listed;
 use crate::marks::push_mark;
 use crate::places::{push_json, push_place};
+use crate::printed::push_printed;
 use crate::promise::Promise;
-use crate::request::{Action, Target};
-use crate::runs::{Stop, has_value, run, stopped_at};
+use crate::request::{Action, Answering, Target};
+use crate::runs::{Setting, Stop, has_value, stopped_at};
 use crate::stack::turns_borne;
 use crate::task::Task;
 use notation_print::push_script;
@@ -18,7 +19,7 @@ use rhai_script::AST;
 use run_host::RunEnd;
 use std::alloc::{AllocError, Global};
 use std::fmt::{Display, Write};
-use syntax_source::{OptimizedText, Refusal, Why, optimize_text, read};
+use syntax_source::{OptimizedText, Refusal, Why, optimize_text, read, refusals};
 use tool_findings::{Finding, Severity, findings};
 use tool_report::push_parts;
 
@@ -67,20 +68,38 @@ impl<'q, 'a> Question<'q, 'a> {
                     ..
                 },
             ) => Err(OutOfMemory),
-            Err(refusal) => Ok(self.refused(&refusal)?),
+            Err(refusal) => self.refused(&refusal),
         }
     }
 
-    fn refused(&self, refusal: &Refusal) -> Result<Answer, AllocError> {
+    /// What is answered where this was the first refusal; of a text that is checked each is said.
+    fn refused(&self, first: &Refusal) -> Result<Answer, OutOfMemory> {
         let mut refused = Answer::new(self.task.alloc);
-        if self.task.request.json {
-            let mark = Some(("refused", Severity::Error));
-            refused.is_found = true;
-            self.mark(refusal.position, mark, &refusal.why, &mut refused.said)?;
-        } else {
-            self.note(refusal.position, &refusal.why, &mut refused)?;
+        let all = self.refusals()?;
+        if all.is_empty() {
+            self.refuse(first, &mut refused)?;
+        }
+        for refusal in &all {
+            self.refuse(refusal, &mut refused)?;
         }
         Ok(refused)
+    }
+
+    fn refusals(&self) -> Result<Vec<Refusal>, OutOfMemory> {
+        let (alloc, syntax) = (self.task.alloc, self.task.request.syntax);
+        match self.task.request.action {
+            Action::Check => refusals(alloc, syntax, self.text),
+            _ => Ok(Vec::new(alloc)),
+        }
+    }
+
+    fn refuse(&self, refusal: &Refusal, refused: &mut Answer) -> Result<(), AllocError> {
+        if !self.task.request.json {
+            return self.note(refusal.position, &refusal.why, refused);
+        }
+        let mark = Some(("refused", Severity::Error));
+        refused.is_found = true;
+        self.mark(refusal.position, mark, &refusal.why, &mut refused.said)
     }
 
     fn ask(&self, answer: &mut Answer) -> Result<(), Refusal> {
@@ -233,21 +252,23 @@ impl<'q, 'a> Question<'q, 'a> {
         }
     }
 
-    /// Runs statements, reports, and notes where the run stops: at this place, or at the statement that it does not get
-    /// past.
+    /// Runs statements, says what they print, reports, and notes where the run stops: at this place, or at the statement
+    /// that it does not get past.
     fn report(
         &self,
         script: &AST,
         place: Option<Position>,
         answer: &mut Answer,
     ) -> Result<(), OutOfMemory> {
-        let (alloc, info) = (self.task.alloc, &self.task.info);
         let turns = self.task.request.turns;
-        let borne = turns_borne(alloc, script, turns)?;
-        let mut report = run(alloc, script, info, borne)?;
+        let setting = self.setting(script)?;
+        let mut report = setting.run(script)?;
+        let spared = turns.saturating_sub(setting.turns);
         if report.run_end != RunEnd::OutOfTurns {
-            let spared = turns.saturating_sub(borne);
             report.turns_left = report.turns_left.saturating_add(spared);
+        }
+        if setting.answering == Answering::Standard {
+            push_printed(&report, &mut answer.said)?;
         }
         push_parts(&report, &mut answer.said)?;
         if has_value(&report) {
@@ -255,12 +276,23 @@ impl<'q, 'a> Question<'q, 'a> {
         }
         let position = match place {
             Some(place) => place,
-            None => stopped_at(alloc, script, info, borne)?,
+            None => stopped_at(&setting, script)?,
         };
         let stop = Stop {
             end: &report.run_end,
-            borne: (borne < turns).then_some(borne),
+            borne: (spared > 0).then_some(setting.turns),
         };
         Ok(self.note(position, &stop, answer)?)
+    }
+
+    /// What is told of runs of a script, with as many turns as the stack bears.
+    fn setting(&self, script: &AST) -> Result<Setting<'_>, OutOfMemory> {
+        let Task { alloc, request, .. } = self.task;
+        Ok(Setting {
+            alloc: *alloc,
+            info: &self.task.info,
+            answering: request.answering,
+            turns: turns_borne(*alloc, script, request.turns)?,
+        })
     }
 }

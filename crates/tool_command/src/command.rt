@@ -67,7 +67,10 @@ fn asked<F: Files, W: io::Write, E: io::Write>(
         Err(error) => return told(alloc, &error, out, err),
     };
     match Task::of(alloc, request) {
-        Ok(task) => with_task(&task, files, out, err),
+        Ok(mut task) => {
+            kept(task.let_arrays_take_texts())?;
+            with_task(&task, files, out, err)
+        }
         Err(bad) => {
             let said = format!(in alloc; "{bad}")?;
             let error = refused(alloc, ErrorKind::ValueValidation, said.as_str())?;
@@ -186,7 +189,7 @@ fn with_file<F: Files, W: io::Write, E: io::Write>(
 }
 
 /// Want of memory as an error of the streams.
-fn kept(answer: Result<Answer, OutOfMemory>) -> Result<Answer, AllocError> {
+fn kept<T>(answer: Result<T, OutOfMemory>) -> Result<T, AllocError> {
     match answer {
         Ok(answer) => Ok(answer),
         Err(OutOfMemory) => Err(AllocError),

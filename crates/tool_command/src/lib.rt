@@ -14,6 +14,7 @@ mod line_ends;
 mod listed;
 mod marks;
 mod places;
+mod printed;
 mod promise;
 mod reach;
 mod request;

@@ -31,6 +31,15 @@ pub(crate) enum Target<'a> {
     InPlace,
 }
 
+/// What answers the calls of a run.
+#[derive(Clone, Copy, PartialEq, Eq)]
+pub(crate) enum Answering {
+    /// rhai's standard functions.
+    Standard,
+    /// Unit, for each call.
+    Unit,
+}
+
 /// What the words ask of files.
 #[derive(Drop)]
 pub(crate) struct Request<'a> {
@@ -40,6 +49,8 @@ pub(crate) struct Request<'a> {
     pub(crate) level: OptimizationLevel,
     /// How many rounds and calls a run has.
     pub(crate) turns: u64,
+    /// What answers the calls of a run.
+    pub(crate) answering: Answering,
     /// The call that is run in the place of the statements.
     pub(crate) entry: Option<&'a str>,
     /// How scripts are written.
@@ -86,6 +97,7 @@ impl<'a> Request<'a> {
             action,
             level: level_named(chosen.get_str("level")),
             turns: chosen.get_one::<u64>("turns").unwrap_or(TURNS),
+            answering: host_named(chosen.get_str("host")),
             entry: chosen.get_str("entry"),
             syntax: syntax_of(chosen),
             target: target_of(chosen),
@@ -141,6 +153,13 @@ fn level_named(name: Option<&str>) -> OptimizationLevel {
         Some("none") => OptimizationLevel::None,
         Some("full") => OptimizationLevel::Full,
         _ => OptimizationLevel::Simple,
+    }
+}
+
+fn host_named(name: Option<&str>) -> Answering {
+    match name {
+        Some("unit") => Answering::Unit,
+        _ => Answering::Standard,
     }
 }
 

@@ -1,22 +1,40 @@
 //! Runs, and where they stop.
 
+use crate::request::Answering;
 use base_engine::EngineInfo;
 use rhai_ast::{Stmt, StmtQueries};
 use rhai_base::{OutOfMemory, Position, Scope};
 use rhai_run::plain_run;
 use rhai_script::AST;
 use run_host::{RunEnd, RunReport, UnitHost};
+use run_standard::StandardHost;
 use std::alloc::Global;
 use std::fmt::{self, Display, Write};
 
-/// The report of a run from an empty scope, with a host that answers each call by unit.
-pub(crate) fn run(
-    alloc: Global,
-    script: &AST,
-    info: &EngineInfo,
-    turns: u64,
-) -> Result<RunReport, OutOfMemory> {
-    plain_run(alloc, script, info, &UnitHost, &Scope::new(alloc), turns)
+/// What is told of each run.
+#[derive(Clone, Copy)]
+pub(crate) struct Setting<'s> {
+    pub(crate) alloc: Global,
+    pub(crate) info: &'s EngineInfo,
+    pub(crate) answering: Answering,
+    pub(crate) turns: u64,
+}
+
+impl<'s> Setting<'s> {
+    /// The report of a run from an empty scope.
+    pub(crate) fn run(&self, script: &AST) -> Result<RunReport, OutOfMemory> {
+        let Setting {
+            alloc,
+            info,
+            turns,
+            ..
+        } = *self;
+        let scope = Scope::new(alloc);
+        match self.answering {
+            Answering::Standard => plain_run(alloc, script, info, &StandardHost, &scope, turns),
+            Answering::Unit => plain_run(alloc, script, info, &UnitHost, &scope, turns),
+        }
+    }
 }
 
 /// How a run stops that does not end with a value. What was thrown is in the report, where no text forges a line.
@@ -50,12 +68,7 @@ pub(crate) fn has_value(report: &RunReport) -> bool {
 
 /// Where the first of a script's own statements stands that a run does not get past. The run of fewer statements is
 /// the beginning of that of more; so it is looked for by halves.
-pub(crate) fn stopped_at(
-    alloc: Global,
-    script: &AST,
-    info: &EngineInfo,
-    turns: u64,
-) -> Result<Position, OutOfMemory> {
+pub(crate) fn stopped_at(setting: &Setting<'_>, script: &AST) -> Result<Position, OutOfMemory> {
     let statements = script.statements();
     let (mut passed, mut stopped): (usize, usize) = (0, statements.len());
     for _ in 0..usize::BITS {
@@ -63,8 +76,8 @@ pub(crate) fn stopped_at(
         if middle == passed {
             break;
         }
-        let begun = beginning(alloc, script, middle)?;
-        if has_value(&run(alloc, &begun, info, turns)?) {
+        let begun = beginning(setting.alloc, script, middle)?;
+        if has_value(&setting.run(&begun)?) {
             passed = middle;
         } else {
             stopped = middle;

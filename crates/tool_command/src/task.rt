@@ -3,8 +3,9 @@
 use crate::bad_value::BadValue;
 use crate::constants::known;
 use crate::entry::Entry;
-use crate::request::Request;
+use crate::request::{Action, Answering, Request};
 use base_engine::EngineInfo;
+use rhai_base::{ImmutableString, OutOfMemory};
 use std::alloc::Global;
 
 /// What the words ask, read.
@@ -32,5 +33,19 @@ impl<'a> Task<'a> {
             info,
             entry,
         })
+    }
+
+    /// Where runs are answered by rhai's standard functions, `+=` of an array and a text is asked as such, since `+` joins
+    /// the text of the array and the other.
+    pub(crate) fn let_arrays_take_texts(&mut self) -> Result<(), OutOfMemory> {
+        if self.request.action != Action::Run || self.request.answering != Answering::Standard {
+            return Ok(());
+        }
+        let mut types = Vec::new(self.alloc);
+        for name in ["array", "string"] {
+            types.push(ImmutableString::new(self.alloc, name)?)?;
+        }
+        let name = ImmutableString::new(self.alloc, "+=")?;
+        self.info.override_operator(name, types)
     }
 }

@@ -68,6 +68,7 @@ fn run<'a>(alloc: Global) -> Result<Command<'a>, AllocError> {
         .about("Run each script and print a report")
         .arg(entry(alloc))?
         .arg(turns(alloc))?
+        .arg(host(alloc))?
         .arg(promise(alloc))?
         .arg(constant(alloc))?
         .arg(depth(alloc)?)?
@@ -179,6 +180,19 @@ fn turns<'a>(alloc: Global) -> Arg<'a> {
         .value_parser(value_parser!(u64))
         .default_value("1000")
         .help("How many rounds of loops and calls of functions a run has")
+}
+
+static HOSTS: [&str; 2] = ["standard", "unit"];
+
+fn host<'a>(alloc: Global) -> Arg<'a> {
+    Arg::new(alloc, "host")
+        .long("host")
+        .value_name("HOST")
+        .value_parser(HOSTS.as_slice())
+        .default_value("standard")
+        .help(
+            "What answers calls: rhai's standard functions, as far as they are there, or unit for each call",
+        )
 }
 
 fn files<'a>(alloc: Global) -> Arg<'a> {

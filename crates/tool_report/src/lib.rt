@@ -7,3 +7,4 @@ mod lines;
 mod values;
 
 pub use lines::push_parts;
+pub use values::push_literal;

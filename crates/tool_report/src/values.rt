@@ -13,9 +13,9 @@ use rhai_base::{Dynamic, FnPtr, INT, ImmutableString, StringMap};
 use std::alloc::AllocError;
 use std::fmt::Write;
 
-/// Appends a value.
+/// Appends a value. A refused call can leave a part of it.
 #[cycle(literal)]
-pub(crate) fn push_literal(value: &Dynamic, to: &mut String) -> Result<(), AllocError>
+pub fn push_literal(value: &Dynamic, to: &mut String) -> Result<(), AllocError>
     ensures { OnOk result (string_bytes to.new ≡ string_bytes to.old ++ literal (value_of value.now)) }
 {
     match value {

@@ -1,0 +1,12 @@
+pub mod LetterSteps
+pub mod BlankSteps
+pub mod WordSteps
+pub mod NumberSteps
+pub mod FloatSteps
+pub mod QuotedSteps
+pub mod EndSteps
+pub mod PathSteps
+pub mod Steps
+pub mod ExprSteps
+pub mod PairSteps
+pub mod ScriptSteps

@@ -1,0 +1,5 @@
+use Rattle.std.proofs.Common.{rules}
+use Rattle.syntax_grammar.proofs.names.is_own_method.Goals as goal
+
+pub returns : goal.returns
+returns c = search rules
