@@ -15,13 +15,13 @@ none_else : {A : Type 0} (o : Option A) → o ≡ or_else o None
 none_else (Some a) = refl
 none_else None = refl
 
-abbrev constant_at : Binding → Text → Option Value
+abbrev pub constant_at : Binding → Text → Option Value
 constant_at b x = if same_text b.name x then Some b.value else None
 
 abbrev name_at : TypeName → Text → Option Text
 name_at m t = if same_text m.from t then Some m.to else None
 
-constant_last : (bs : List Binding) (b : Binding) (x : Text) → constant_named (bs ++ b ∷ []) x ≡ or_else (constant_at b x) (constant_named bs x)
+pub constant_last : (bs : List Binding) (b : Binding) (x : Text) → constant_named (bs ++ b ∷ []) x ≡ or_else (constant_at b x) (constant_named bs x)
 constant_last [] b x = none_else (constant_at b x)
 constant_last (a ∷ bs) b x = ap (λ o. or_else o (constant_at a x)) (constant_last bs b x) ∙ or_else_assoc (constant_at b x) (constant_named bs x) (constant_at a x)
 

@@ -11,4 +11,5 @@ pub mod Unknown
 pub mod WholeParts
 pub mod NoneBelow
 pub mod Functions
+pub mod Globals
 pub mod Others

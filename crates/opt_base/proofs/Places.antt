@@ -1,13 +1,13 @@
 -- What may stand where, by tests.
-use Rattle.std.proofs.Common.{◌≡◌, map, Bool, true, false, not, ◌↔◌, IsTrue, List, [], ◌∷◌, Option, Some, None, is_some, refl, sym, ◌∙◌}
+use Rattle.std.proofs.Common.{◌≡◌, ◌<◌, ◌≤◌, map, Bool, true, false, not, cond, List, [], ◌∷◌, length, get_or, Option, Some, None, is_some, refl, sym, ap, ◌∙◌, arith}
 use Rattle.base_tokens.specs.declared.ident.Ident.{Ident}
 use Rattle.rhai_base.specs.Value.{Text}
-use Rattle.theory_meaning.specs.Act.{Root}
-use Rattle.theory_meaning.specs.Desugar.{root_of}
+use Rattle.theory_meaning.specs.Act.{Root, OfGlobal}
+use Rattle.theory_meaning.specs.Desugar.{is_global, name_root, root_of}
 use Rattle.theory_meaning.specs.Queries.{is_unit}
-use Rattle.theory_meaning.specs.Tree.{Expr, Variable}
+use Rattle.theory_meaning.specs.Tree.{Expr}
 use Rattle.theory_rewriting.specs.Steps.{Place, Anywhere, AsBase, AsGuard, MayBecome}
-use Rattle.opt_base.specs.Standing.{is_root, may_stand}
+use Rattle.opt_base.specs.Standing.{may_stand}
 
 pub not-false : (b : Bool) → not b ≡ false → b ≡ true
 not-false true h = refl
@@ -27,11 +27,26 @@ stands Anywhere e e' r u h = tt
 stands AsBase e e' r u h = no_place (root_of e') h ∙ sym r
 stands AsGuard e e' r u h = not-true (is_unit e') h ∙ sym u
 
--- ---- a name without a namespace
+-- ---- a name by its namespace
 
-pub root-by_path : (ns : List Ident) (x : Text) (b : Bool) → (IsTrue b ↔ (ns ≡ [])) → b ≡ is_root (Variable (map (λ i. i.name) ns) x)
-root-by_path [] x b h = h.1 refl
-root-by_path (n ∷ ns) x true h = let k = h.0 refl in absurd cc
-root-by_path (n ∷ ns) x false h = refl
+module _ (x : Text) where
+  abbrev named : List Ident → Bool
+  named is = is_some (name_root (map (λ i. i.name) is) x)
 
-pub ruleset roots = (root-by_path)
+  pub own_root : (is : List Ident) → length is < 1 → true ≡ named is
+  own_root [] h = refl
+  own_root (i ∷ is) h = absurd (omega (arith, h))
+
+  global_by : (b : Bool) → b ≡ is_some (cond b (Some (OfGlobal x)) None)
+  global_by true = refl
+  global_by false = refl
+
+  pub global_root : (is : List Ident) (i : Ident) → 1 ≤ length is → length is < 2 → i ≡ get_or is 0 i → is_global i.name ≡ named is
+  global_root [] i h k e = absurd (omega (arith, h))
+  global_root (j ∷ []) i h k e = ap (λ (m : Ident). is_global m.name) e ∙ global_by (is_global j.name)
+  global_root (j ∷ m ∷ is) i h k e = absurd (omega (arith, k))
+
+  pub other_root : (is : List Ident) → 2 ≤ length is → false ≡ named is
+  other_root [] h = absurd (omega (arith, h))
+  other_root (i ∷ []) h = absurd (omega (arith, h))
+  other_root (i ∷ j ∷ is) h = refl

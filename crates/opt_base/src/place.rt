@@ -2,13 +2,16 @@
 
 #![tactic(auto, using(ast_types::specs::Reading::shapes))]
 
-ghost use Rattle.std.specs.Prelude.{◌≡◌, ◌↔◌, IsTrue, []};
-ghost use Rattle.ast_types.specs.Reading.{expr_of};
+ghost use Rattle.std.specs.Prelude.{◌≡◌, is_some};
+ghost use Rattle.base_text.specs.Text.{Text};
+ghost use Rattle.ast_types.specs.Reading.{expr_of, path_of};
+ghost use Rattle.theory_meaning.specs.Desugar.{name_root};
 ghost use Rattle.theory_meaning.specs.Tree.{UnitConstant};
 ghost use Rattle.opt_base.specs.Places.{place_of};
 ghost use Rattle.opt_base.specs.Standing as standing;
 
 use rhai_ast::{Expr, ExprQueries};
+use rhai_base::Namespace;
 
 /// Where an expression stands.
 #[derive(Clone, Copy)]
@@ -21,13 +24,24 @@ pub enum Place {
     Guard,
 }
 
-/// Whether an expression stands for a place: a name, or `this`.
+/// Whether an expression stands for a place: a name, a constant of the script's own list, or `this`.
 fn is_root(expr: &Expr) -> bool
     ensures { result ≡ standing.is_root (expr_of expr.now) }
 {
     match expr {
-        Expr::Variable(parts, _, _) => parts.get().2.is_empty(),
+        Expr::Variable(parts, _, _) => has_root(&parts.get().2),
         Expr::ThisPtr(_) => true,
+        _ => false,
+    }
+}
+
+/// Whether a name in this namespace stands for one.
+fn has_root(namespace: &Namespace) -> bool
+    ensures { (x : Text) → result ≡ is_some (name_root (path_of namespace.now) x) }
+{
+    match namespace.path.as_slice() {
+        [] => true,
+        [module] => module.as_str() == "global",
         _ => false,
     }
 }

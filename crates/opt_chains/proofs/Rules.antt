@@ -199,17 +199,15 @@ module _ (r : Engine) (ks : List Known) (p : Place) (f : ChainFlags) where
       subst (Rewrites r ks p (link dot f e b)) q (record { rule = linked dot h; stays = stands_there p dot f e b (constant_of v) m; keeps = keeps_constant_of (link dot f e b) v })
 
   known_property : (ns : List Text) (x : Text) (q : PropertyNames) (v : Value) (o : Option Value) → known_value ks (Variable ns x) ≡ o → property_of o q.name ≡ Some v → may_stand p (onward f.breaks (Property q) (constant_of v)) ≡ true → Knows true (Variable ns x) (Property q) v
-  known_property [] x q v (Some (MapV fs)) h y s =
+  known_property ns x q v (Some (MapV fs)) h y s =
       let i = some_is (entry fs q.name) v y in
-      known_by true (Variable [] x) (Property q) v (onward_property f.breaks q (constant_of v)) s (subst (λ z. ChainRule (knowing r ks) true f (Variable [] x) (Property q) (constant_of z)) i (rule.known_property fs h))
-  known_property (n ∷ ns) x q v (Some (MapV fs)) h y s = none_is h
+      known_by true (Variable ns x) (Property q) v (onward_property f.breaks q (constant_of v)) s (subst (λ z. ChainRule (knowing r ks) true f (Variable ns x) (Property q) (constant_of z)) i (rule.known_property fs h))
   known_property ns x q v _ h y s = none_is y
 
   known_entry : (ns : List Text) (x : Text) (b : Expr) (v : Value) (o u : Option Value) → known_value ks (Variable ns x) ≡ o → constant_value b ≡ u → entry_of o u ≡ Some v → may_stand p (onward f.breaks b (constant_of v)) ≡ true → Knows false (Variable ns x) b v
-  known_entry [] x b v (Some (MapV fs)) (Some (TextV y)) h i q s =
+  known_entry ns x b v (Some (MapV fs)) (Some (TextV y)) h i q s =
       let z = some_is (entry fs y) v q in
-      known_by false (Variable [] x) b v (onward_constant f.breaks b (constant_of v) (TextV y) i) s (subst (λ w. ChainRule (knowing r ks) false f (Variable [] x) b (constant_of w)) z (rule.known_entry fs y h i))
-  known_entry (n ∷ ns) x b v (Some (MapV fs)) (Some (TextV y)) h i q s = none_is h
+      known_by false (Variable ns x) b v (onward_constant f.breaks b (constant_of v) (TextV y) i) s (subst (λ w. ChainRule (knowing r ks) false f (Variable ns x) b (constant_of w)) z (rule.known_entry fs y h i))
   known_entry ns x b v _ _ h i q s = none_is q
 
   known_gives : (dot : Bool) (e b : Expr) (v : Value) → known_answer ks dot e b ≡ Some v → may_stand p (onward f.breaks b (constant_of v)) ≡ true → Knows dot e b v

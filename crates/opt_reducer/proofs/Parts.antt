@@ -1,5 +1,5 @@
 -- Trees that are spelled so, and nodes that are not opened.
-use Rattle.std.proofs.Common.{◌-◌, ℕ, drop, length, ◌≡◌, ◌↔◌, IsTrue, map, ◌++◌, Bool, true, false, List, [], ◌∷◌, refl, sym, ap, ◌∙◌, subst}
+use Rattle.std.proofs.Common.{◌-◌, ◌≤◌, ℕ, zero, suc, drop, length, ◌≡◌, ◌↔◌, IsTrue, map, ◌++◌, Bool, true, false, List, [], ◌∷◌, Some, None, refl, sym, ap, ◌∙◌, subst, arith, length-append}
 use Rattle.base_tokens.specs.declared.position.Position.{Position}
 use Rattle.std.specs.declared.num.NonZeroUsize.{NonZeroUsize}
 use Rattle.std.specs.Prelude.{Option, Result, IfOk}
@@ -22,22 +22,24 @@ use Rattle.ast_types.specs.declared.stmt.Stmt as declared_stmt
 use Rattle.ast_types.specs.declared.stmt.Stmt.TheVariants as stmt_kind
 use Rattle.ast_types.specs.Reading.{table_by, table_of, subject_of, cases_of, expressions_of, arms_of, expr_of, stmt_of, stmts_of, stmt_of-Var, is_const, is_exported, breaks, chain_flags}
 use Rattle.ast_types.proofs.Cases.{ExprCase, interpolated_string_case, array_case, map_case, unit_case, variable_case, method_call_case, braces_case, call_case, dot_case, index_case, and_case, or_case, coalesce_case, expr_cases, StmtCase, if_case, switch_case, while_case, do_case, for_case, var_case, assignment_case, call_statement_case, block_case, try_catch_case, expression_case, break_loop_case, return_case, import_case, stmt_cases}
+use Rattle.theory_meaning.specs.Act.{OfName}
 use Rattle.theory_meaning.specs.Engine.{Engine}
 use Rattle.theory_meaning.specs.Tree.{Expr, Variable, Dot, Index, Arms, MaybeExpr, no_expr, Stmt, If, Var, Stmts, Switch, SwitchTable}
 use Rattle.theory_meaning.specs.Shape.{catch_name}
 use Rattle.theory_rewriting.specs.Clear.{HasClearParts, IsClear}
 use Rattle.ast_types.proofs.OtherKinds.{NoText, NoArray, NoMap, NoBraces, NoCall, NoDot, NoIndex, NoAnd, NoOr, NoCoalesce, NoMethod, NoVariable, NoIf, NoWhile, NoDo, NoFor, NoVar, NoAssignment, NoCallStatement, NoBlock, NoTry, NoExpression, NoBreak, NoReturn, NoImport, NoSwitch}
 use Rattle.theory_rewriting.specs.Context.{knowing, known_behind}
-use Rattle.theory_rewriting.specs.Known.{Known}
+use Rattle.theory_rewriting.specs.Known.{Known, globals_of}
 use Rattle.theory_rewriting.specs.Rewriting.{StmtTo, same_expr, same_stmt}
-use Rattle.theory_rewriting.specs.Steps.{Anywhere, ExprRun, ArmsRun, Progress, is_chain_node, is_method, variable, catch_front, StepsRun, ArgumentRun, ChainRun, TargetRun, MaybeRun, SidesRun, LinkRun, ForRun, ExprPartsRun, StmtPartsRun, StmtReduced, StmtPassed, StmtRun, SubjectRun, HasReducedSubject}
+use Rattle.theory_rewriting.specs.Steps.{Anywhere, ExprRun, ArmsRun, Progress, is_chain_node, is_method, variable, loop_front, catch_front, StepsRun, ArgumentRun, ChainRun, TargetRun, MaybeRun, SidesRun, LinkRun, ForRun, ExprPartsRun, StmtPartsRun, StmtReduced, StmtPassed, StmtRun, SubjectRun, HasReducedSubject}
 use Rattle.theory_rewriting.specs.Normal.{IsNormal, HasNormalParts, StmtHasNormalParts}
 use Rattle.theory_rewriting.specs.Residue.{ExprParts, StmtParts}
-use Rattle.opt_base.specs.State.{known_entry, known_of}
+use Rattle.opt_base.specs.State.{Standing, known_entry, known_of, global_entry, globals_known, progress}
 use Rattle.opt_rules.proofs.Kept.{nothing_left}
 use Rattle.opt_base.specs.NodeSteps.{StmtDecided}
 use Rattle.std.proofs.lemmas.List.{length-map, drop-map}
 use Rattle.opt_reducer.specs.Parts.{StaysAnywhere, declared_value, StmtOnce}
+use Rattle.theory_rewriting.proofs.Knowing.{globals_append}
 use Rattle.theory_rewriting.proofs.Firing.{expr_done, expr_kept, expr_start, stmt_then, stmt_pass, stmt_again_falls, stmt_done}
 use Rattle.theory_rewriting.proofs.Running.{sides_dot, sides_index, link_dot, link_index, maybe_none_run, condition_run, subject_run, arms_run}
 
@@ -164,17 +166,17 @@ stmt_stays {r = r} {w = w} {s = s} x na nb nc nd ne nf ng nh ni nj nk nl nm nn =
 
 -- ---- what a statement declares
 
-pub declares : (c o : Bool) (x : Text) (e : Expr) (ks : List Known) → record { name = x; value = declared_value c e } ∷ ks ≡ known_behind (Var c o x e) ks
+pub declares : (c o : Bool) (x : Text) (e : Expr) (ks : List Known) → record { root = OfName x; value = declared_value c e } ∷ ks ≡ known_behind (Var c o x e) ks
 declares true o x e ks = refl
 declares false o x e ks = refl
 
-noted : (x y : Ident × declared_expr.Expr × Option NonZeroUsize) (k : ASTFlags) (p : Position) (ks : List Known) → x ≡ y → record { name = x.0.name; value = declared_value (is_const k) (expr_of x.1) } ∷ ks ≡ known_behind (stmt_of (stmt_kind.Var y k p)) ks
+noted : (x y : Ident × declared_expr.Expr × Option NonZeroUsize) (k : ASTFlags) (p : Position) (ks : List Known) → x ≡ y → record { root = OfName x.0.name; value = declared_value (is_const k) (expr_of x.1) } ∷ ks ≡ known_behind (stmt_of (stmt_kind.Var y k p)) ks
 noted x y k p ks h =
     declares (is_const k) (is_exported k) x.0.name (expr_of x.1) ks
     ∙ ap (λ (z : Ident × declared_expr.Expr × Option NonZeroUsize). known_behind (Var (is_const k) (is_exported k) z.0.name (expr_of z.1)) ks) h
     ∙ ap (λ s. known_behind s ks) (sym (stmt_of-Var y k p))
 
-pub noted_as : (x y : Ident × declared_expr.Expr × Option NonZeroUsize) (k : ASTFlags) (p : Position) (s : declared_stmt.Stmt) (ks ks' : List Known) (d d' : Bool) → x ≡ y → s ≡ stmt_kind.Var y k p → (d' ≡ d) × (ks' ≡ record { name = x.0.name; value = declared_value (is_const k) (expr_of x.1) } ∷ ks) → (d' ≡ d) × (ks' ≡ known_behind (stmt_of s) ks)
+pub noted_as : (x y : Ident × declared_expr.Expr × Option NonZeroUsize) (k : ASTFlags) (p : Position) (s : declared_stmt.Stmt) (ks ks' : List Known) (d d' : Bool) → x ≡ y → s ≡ stmt_kind.Var y k p → (d' ≡ d) × (ks' ≡ record { root = OfName x.0.name; value = declared_value (is_const k) (expr_of x.1) } ∷ ks) → (d' ≡ d) × (ks' ≡ known_behind (stmt_of s) ks)
 noted_as x y k p s ks ks' d d' h i q = (q.0, q.1 ∙ noted x y k p ks h ∙ ap (λ (z : declared_stmt.Stmt). known_behind (stmt_of z) ks) (sym i))
 
 none_declared : (ks : List Known) {x : declared_stmt.Stmt} {s : Stmt} → StmtCase x s → NoVar x → ks ≡ known_behind s ks
@@ -186,11 +188,58 @@ declares_nothing ks x h = none_declared ks (stmt_cases x) h
 
 -- ---- the names that the state holds
 
-pub counted : (n : ℕ) (es : List (Text × Option Dynamic)) → n ≡ length es → n ≡ length (known_of es)
-counted n es h = h ∙ sym (length-map es known_entry)
+abbrev Entries : Type 0
+Entries = List (Text × Option Dynamic)
 
-pub forgotten : (n : ℕ) (es es' : List (Text × Option Dynamic)) → es' ≡ drop (length es - n) es → known_of es' ≡ drop (length (known_of es) - n) (known_of es)
-forgotten n es es' h = ap known_of h ∙ sym (drop-map known_entry (length es - n) es) ∙ ap (λ k. drop (k - n) (known_of es)) (sym (length-map es known_entry))
+-- where the names and the setting are the same, so is what is known
+pub same_known : (s s' : Standing) → s'.entries ≡ s.entries → s'.setting ≡ s.setting → (progress s').known ≡ (progress s).known
+same_known s s' h g = λ i. known_of (h i) ++ globals_known (g i).globals
+
+-- beside them only those of the script's own list are known
+known_with : (es : Entries) (gs : Option Entries) → globals_of (known_of es ++ globals_known gs) ≡ globals_known gs
+known_with [] None = refl
+known_with [] (Some []) = refl
+known_with [] (Some (g ∷ gs)) = ap (λ l. global_entry g ∷ l) (known_with [] (Some gs))
+known_with (e ∷ es) gs = known_with es gs
+
+pub fresh_with : (es : Entries) (gs gs' : Option Entries) → gs' ≡ gs → globals_known gs' ≡ globals_of (known_of es ++ globals_known gs)
+fresh_with es gs gs' h = ap globals_known h ∙ sym (known_with es gs)
+
+-- loops and catches add names alone
+pub loop_names_alone : (x : Text) (i : Option Text) → globals_of (loop_front x i) ≡ []
+loop_names_alone x None = refl
+loop_names_alone x (Some y) = refl
+
+pub catch_name_alone : (x : Option (Option Text)) → globals_of (catch_front x) ≡ []
+catch_name_alone None = refl
+catch_name_alone (Some None) = refl
+catch_name_alone (Some (Some x)) = refl
+
+-- which a list keeps
+same_with : (es es' : Entries) (gs gs' : Option Entries) (front : List Known) → globals_of front ≡ [] → known_of es' ++ globals_known gs' ≡ front ++ (known_of es ++ globals_known gs) → globals_known gs' ≡ globals_known gs
+same_with es es' gs gs' front n h =
+    sym (known_with es' gs') ∙ ap globals_of h ∙ globals_append front (known_of es ++ globals_known gs)
+    ∙ (λ i. n i ++ globals_of (known_of es ++ globals_known gs)) ∙ known_with es gs
+
+drop_front : {A : Type 0} (n : ℕ) (xs ys : List A) → n ≤ length xs → drop n xs ++ ys ≡ drop n (xs ++ ys)
+drop_front zero xs ys le = refl
+drop_front (suc n) [] ys le = absurd (omega (arith, le))
+drop_front (suc n) (x ∷ xs) ys le = drop_front n xs ys (omega (arith, le))
+
+-- the names of before, behind a list that began with so many
+pub forgotten : (n : ℕ) (es es1 es2 : Entries) (gs gs1 gs2 : Option Entries) (front : List Known) → n ≡ length es → globals_of front ≡ [] → known_of es1 ++ globals_known gs1 ≡ front ++ (known_of es ++ globals_known gs) → gs2 ≡ gs1 → es2 ≡ drop (length es1 - n) es1 → known_of es2 ++ globals_known gs2 ≡ drop (length (known_of es1 ++ globals_known gs1) - length (known_of es ++ globals_known gs)) (known_of es1 ++ globals_known gs1)
+forgotten n es es1 es2 gs gs1 gs2 front c f h g e =
+    let k1 = known_of es1 in
+    let s = ap length (same_with es es1 gs gs1 front f h) in
+    let l1 : length k1 ≡ length es1 = length-map es1 known_entry in
+    let l0 : length (known_of es) ≡ length es = length-map es known_entry in
+    let a1 = length-append k1 (globals_known gs1) in
+    let a0 = length-append (known_of es) (globals_known gs) in
+    let m : length es1 - n ≡ length (k1 ++ globals_known gs1) - length (known_of es ++ globals_known gs) = omega (arith, s, l1, l0, a1, a0, c) in
+    (λ i. known_of (e i) ++ globals_known (g i))
+    ∙ ap (λ l. l ++ globals_known gs1) (sym (drop-map known_entry (length es1 - n) es1))
+    ∙ drop_front (length es1 - n) k1 (globals_known gs1) (omega (arith, l1))
+    ∙ ap (λ k. drop k (k1 ++ globals_known gs1)) m
 
 -- ---- a `switch` whose parts were written
 

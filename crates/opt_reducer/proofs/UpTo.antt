@@ -15,9 +15,11 @@ use Rattle.theory_meaning.specs.Tree.{Expr, Pairs, pair, Stmt, Stmts, no_stmts, 
 use Rattle.theory_meaning.specs.Walk.{total, over_pairs}
 use Rattle.theory_rewriting.specs.Context.{ListContext, ListKind, wanted, wanted_before}
 use Rattle.theory_rewriting.specs.Rewriting.{RestTo, same_stmts}
-use Rattle.theory_rewriting.specs.Steps.{Progress, Anywhere, ExprRun, ExprsRun, PairsRun, ArmRun, ArmsRun, EachRun, UnknownRun}
+use Rattle.theory_rewriting.specs.Steps.{ItemRun, Progress, Anywhere, ExprRun, ExprsRun, PairsRun, ArmRun, ArmsRun, EachRun, UnknownRun}
 use Rattle.theory_rewriting.specs.Evals.{keeps_names}
 use Rattle.opt_reducer.specs.Going.{Going, going, known_at, item_goes, ItemGoes}
+use Rattle.theory_rewriting.specs.Known.{Known, globals_of}
+use Rattle.theory_rewriting.proofs.Knowing.{globals_behind, globals_twice}
 use Rattle.theory_rewriting.proofs.Running.{exprs_none_run, exprs_more_run, pairs_none_run, pairs_more_run, arms_none_run, arms_more_run, each_more_run, each_ends_run, unknown_none_run, unknown_more_run, beside}
 use Rattle.theory_meaning.specs.Weight.{own_weight, expr_weight, exprs_weight, stmt_weight, weight}
 
@@ -139,31 +141,45 @@ stmt_weighs s = stmt_weight (stmt_of s)
 abbrev pub stmts_weigh : List declared_stmt.Stmt → ℕ
 stmts_weigh ss = weight (stmts_of ss)
 
--- nothing is known yet, and nothing has changed
-pub record IsFresh (u : Progress) : Type 0 where
+-- no name is known yet, and nothing has changed
+pub record IsFresh (s u : Progress) : Type 0 where
   pub clear : u.is_dirty ≡ false
-  pub nothing : u.known ≡ []
+  pub nameless : u.known ≡ globals_of s.known
 
 abbrev list_goes : Bool → Engine → ListKind → Going → Going → Stmts → Stmts → Type 0
-list_goes true r m g g' ss ss' = IsFresh g.unknown → EachRun r m g.state (beside g'.state g'.unknown) ss ss'
-list_goes false r m g g' ss ss' = g.unknown.known ≡ [] → (g'.state ≡ g.state) × UnknownRun r m g.unknown g'.unknown ss ss'
+list_goes true r m g g' ss ss' = IsFresh g.state g.unknown → EachRun r m g.state (beside g'.state g'.unknown) ss ss'
+list_goes false r m g g' ss ss' = g.unknown.known ≡ globals_of g.unknown.known → (g'.state ≡ g.state) × UnknownRun r m g.unknown g'.unknown ss ss'
 
 fresh_none : {k : ListContext} {m : ListKind} {u d : Bool} (b : Bool) → b ≡ false → RestTo k m u d (b || d) no_stmts no_stmts
 fresh_none true h = absurd (let z : true ≡ false = h in cc)
 fresh_none false h = same_stmts
 
 goes_none : (b : Bool) (r : Engine) (m : ListKind) (g : Going) → list_goes b r m g g no_stmts no_stmts
-goes_none true r m g = λ f. record { to = λ u. fresh_none g.unknown.is_dirty f.clear; reduced = tt; clear = tt; front = []; known = refl; normal = λ h. tt }
+goes_none true r m g = λ f. record { to = λ u. fresh_none g.unknown.is_dirty f.clear; reduced = tt; clear = tt; front = []; names = refl; known = refl; normal = λ h. tt }
 goes_none false r m g = λ f. (refl, unknown_none_run)
 
+-- a state of which no name is known knows none but those of the script's own list
+nameless_alone : (u : Progress) (ks : List Known) → u.known ≡ globals_of ks → u.known ≡ globals_of u.known
+nameless_alone u ks h = h ∙ sym (ap globals_of h ∙ globals_twice ks)
+
+-- it is so behind a statement
+fresh_behind : {r : Engine} {w : Bool} {s s1 u u1 : Progress} {x x' : Stmt} → ItemRun r w s s1 x x' → u1 ≡ u → IsFresh s u → IsFresh s1 u1
+fresh_behind {s = s} {x' = x'} p h f = record {
+  clear = ap (λ (v : Progress). v.is_dirty) h ∙ f.clear;
+  nameless = ap (λ (v : Progress). v.known) h ∙ f.nameless ∙ sym (globals_behind x' s.known) ∙ sym (ap globals_of p.known);
+}
+
 goes_more : (b b1 : Bool) (r : Engine) (m : ListKind) (g g1 g2 : Going) (x x' : Stmt) (ss ss' : Stmts) → g1.are_known ≡ b1 → item_goes b r (wanted_before (wanted m) ss) g g1 x x' → list_goes b1 r m g1 g2 ss ss' → list_goes b r m g g2 (stmt x ss) (stmt x' ss')
-goes_more true true r m g g1 g2 x x' ss ss' h p q = λ f. each_more_run p.1 (sym p.0.0 ∙ h) (q (subst IsFresh (sym p.0.1) f))
+goes_more true true r m g g1 g2 x x' ss ss' h p q = λ f. each_more_run p.1 (sym p.0.0 ∙ h) (q (fresh_behind p.1 p.0.1 f))
 goes_more true false r m g g1 g2 x x' ss ss' h p q = λ f.
-    let fresh = subst IsFresh (sym p.0.1) f in
-    let z = q fresh.nothing in
-    subst (λ t. EachRun r m g.state (beside t g2.unknown) (stmt x ss) (stmt x' ss')) (sym z.0) (each_ends_run p.1 (sym p.0.0 ∙ h) fresh.clear z.1)
+    let same : g1.unknown.known ≡ globals_of g.state.known = ap (λ (v : Progress). v.known) p.0.1 ∙ f.nameless in
+    let clear : g1.unknown.is_dirty ≡ false = ap (λ (v : Progress). v.is_dirty) p.0.1 ∙ f.clear in
+    let z = q (nameless_alone g1.unknown g.state.known same) in
+    subst (λ t. EachRun r m g.state (beside t g2.unknown) (stmt x ss) (stmt x' ss')) (sym z.0) (each_ends_run p.1 (sym p.0.0 ∙ h) clear same z.1)
 goes_more false true r m g g1 g2 x x' ss ss' h p q = absurd (let z : true ≡ false = sym h ∙ p.0.0 in cc)
-goes_more false false r m g g1 g2 x x' ss ss' h p q = λ f. let z = q (p.1.known ∙ f) in (z.0 ∙ p.0.1, unknown_more_run f p.1 z.1)
+goes_more false false r m g g1 g2 x x' ss ss' h p q = λ f.
+    let z = q (p.1.known ∙ f ∙ sym (ap globals_of p.1.known)) in
+    (z.0 ∙ p.0.1, unknown_more_run f p.1 z.1)
 
 pub record StmtItem (r : Engine) (m : ListKind) (rest : List declared_stmt.Stmt) (g g' : Going) (x x' : declared_stmt.Stmt) : Type 0 where
   pub run : ItemGoes r (wanted_before (wanted m) (stmts_of rest)) g g' (stmt_of x) (stmt_of x')
@@ -183,7 +199,7 @@ stmts_by r m = record {
 
 -- of a list, which are now `here`, the first n are done; it began where names are known, with a fresh state beside
 pub record EachUpTo (r : Engine) (m : ListKind) (s u : Progress) (g : Going) (all here : List declared_stmt.Stmt) (n : ℕ) : Type 0 where
-  pub fresh : IsFresh u
+  pub fresh : IsFresh s u
   pub to : UpTo stmts_weigh (StmtItems r m) (going true s u) g all here n
 
 known_behind_it : (b : Bool) (here : List declared_stmt.Stmt) (n : ℕ) (y : declared_stmt.Stmt) → n < length here → known_at b (set here n y) (n + 1) ≡ b && keeps_names (stmt_of y)

@@ -720,7 +720,7 @@ impl<'a> Optimizer<'a> {
             (EachRun (record_of self.now) (mark_of mark) (progress state.old) (progress state.new)
             (stmts_of statements.old) (stmts_of statements.new)) }
     {
-        let mut unknown = OptimizerState::new(self.alloc, self.info, None, state.level());
+        let mut unknown = state.without_names(self.alloc);
         let mut are_known = true;
         for at in 0..statements.len() {
             let is_wanted = is_wanted_at(mark.is_wanted(), statements.as_slice(), at);

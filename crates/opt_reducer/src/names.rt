@@ -9,6 +9,7 @@ ghost use Rattle.rhai_base.specs.Reading.{value_of};
 ghost use Rattle.opt_base.specs.Bindings.{read};
 ghost use Rattle.opt_base.specs.State.{progress};
 ghost use Rattle.ast_types.specs.Reading.{counter_of, expr_of, is_const, stmt_of};
+ghost use Rattle.theory_meaning.specs.Act.{OfName};
 ghost use Rattle.theory_meaning.specs.Shape.{catch_name};
 ghost use Rattle.theory_rewriting.specs.Steps.{variable, loop_front, catch_front};
 ghost use Rattle.opt_reducer.specs.Going.{known_at};
@@ -59,7 +60,7 @@ fn note(
     ensures { OnOk result
         ((state.new.is_dirty ≡ state.old.is_dirty)
         × ((progress state.new).known
-        ≡ record { name = name.now.name; value = declared_value (is_const flags) (expr_of expr.now) }
+        ≡ record { root = OfName name.now.name; value = declared_value (is_const flags) (expr_of expr.now) }
         ∷ (progress state.old).known)) }
 {
     let value = declared(alloc, flags, expr)?;

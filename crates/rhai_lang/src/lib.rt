@@ -75,6 +75,7 @@ pub use rhai_base::Token;
 pub use rhai_base::TreeFault;
 pub use rhai_base::builtin_binary_op;
 pub use rhai_base::builtin_unary_op;
+pub use rhai_optimizer::KnownNames;
 pub use rhai_optimizer::OptimizationLevel;
 pub use rhai_optimizer::OptimizerState;
 pub use rhai_optimizer::optimize_ast;

@@ -9,16 +9,16 @@ use Rattle.std.specs.Rc.{rc_value}
 use Rattle.std.specs.declared.alloc.Global.{Global}
 use Rattle.std.specs.declared.rc.Rc.{Rc}
 use Rattle.rhai_base.specs.Value.{Text}
+use Rattle.theory_meaning.specs.Act.{OfName}
 use Rattle.theory_meaning.specs.Calls.{key, same_key}
 use Rattle.theory_meaning.specs.Engine.{Engine}
 use Rattle.ast_types.specs.Reading.{function_of, stmts_of}
 use Rattle.theory_rewriting.specs.Context.{Whole, knowing, open_list}
-use Rattle.theory_rewriting.specs.Known.{Known, shadow_all}
+use Rattle.theory_rewriting.specs.Known.{Known, globals_of, shadow_all}
 use Rattle.theory_rewriting.specs.Finished.{IsFinished, AreFinished}
 use Rattle.theory_rewriting.specs.Rewriting.{RestTo, same_stmts}
 use Rattle.theory_rewriting.specs.Scripts.{naming_all, FunctionTo, FunctionsTo, no_functions as none_to, functions as more_to}
 use Rattle.theory_rewriting.specs.Steps.{Progress, IsReducedBody}
-use Rattle.theory_rewriting.proofs.Running.{drop_front}
 use Rattle.ast_types.specs.declared.script_fn.ScriptFuncDef.{ScriptFuncDef}
 use Rattle.script_tables.specs.FnKey.{definition_key, definitions_table}
 use Rattle.script_tables.specs.Table.{put_by, put_all_by}
@@ -29,18 +29,16 @@ use Rattle.rhai_optimizer.proofs.Passing.{counts_to}
 
 -- ---- names
 
-shadow_front : (xs : List Text) (front ks : List Known) → (f : List Known) × (shadow_all xs (front ++ ks) ≡ f ++ ks)
-shadow_front [] front ks = (front, refl)
-shadow_front (x ∷ xs) front ks = shadow_front xs (record { name = x; value = None } ∷ front) ks
+shadow_front : (xs : List Text) (front ks : List Known) → globals_of front ≡ [] → (f : List Known) × (shadow_all xs (front ++ ks) ≡ f ++ ks) × (globals_of f ≡ [])
+shadow_front [] front ks h = (front, refl, h)
+shadow_front (x ∷ xs) front ks h = shadow_front xs (record { root = OfName x; value = None } ∷ front) ks h
 
--- the parameters are forgotten
-pub unshadowed : (xs : List Text) (n : ℕ) (ks ls : List Known) → n ≡ length ks → ls ≡ drop (length (shadow_all xs ks) - n) (shadow_all xs ks) → ls ≡ ks
-unshadowed xs n ks ls h e =
-    let f = shadow_front xs [] ks in
-    e ∙ ap (λ i. drop (length (shadow_all xs ks) - i) (shadow_all xs ks)) h ∙ ap (λ l. drop (length l - length ks) l) f.1 ∙ drop_front f.0 ks
+-- the parameters stand in front
+pub shadowed : (xs : List Text) (ks : List Known) → (f : List Known) × (shadow_all xs ks ≡ f ++ ks) × (globals_of f ≡ [])
+shadowed xs ks = shadow_front xs [] ks refl
 
 -- the parameters of a loop over them
-pub params-drop : (xs : List Text) (i : ℕ) (d : Text) (ks : List Known) → i < length xs → shadow_all (drop i xs) ks ≡ shadow_all (drop (i + 1) xs) (record { name = get_or xs i d; value = None } ∷ ks)
+pub params-drop : (xs : List Text) (i : ℕ) (d : Text) (ks : List Known) → i < length xs → shadow_all (drop i xs) ks ≡ shadow_all (drop (i + 1) xs) (record { root = OfName (get_or xs i d); value = None } ∷ ks)
 params-drop xs i d ks h = rw (add-one, drop-cons xs i d) refl
 
 pub params-end : (xs : List Text) (ks : List Known) → shadow_all (drop (length xs) xs) ks ≡ ks

@@ -1,5 +1,6 @@
 -- The promise over a whole script, from what was made of its parts.
-use Rattle.std.proofs.Common.{◌≡◌, ◌≢◌, ◌⊎◌, inl, inr, ℕ, suc, arith, length, not, Bool, true, false, List, [], ◌∷◌, map, cond, if◌then◌else◌, refl, sym, ap, ◌∙◌, subst}
+use Rattle.rhai_optimizer.specs.Scopes.{known_outside}
+use Rattle.std.proofs.Common.{◌≡◌, ◌≢◌, ◌⊎◌, inl, inr, ℕ, suc, arith, length, not, Bool, true, false, List, [], ◌∷◌, ◌++◌, append-nil, None, map, cond, if◌then◌else◌, refl, sym, ap, ◌∙◌, subst}
 use Rattle.std.specs.Prelude.{◌&&◌, ◌==◌}
 use Rattle.std.specs.Rc.{rc_value}
 use Rattle.std.specs.declared.alloc.Global.{Global}
@@ -10,16 +11,16 @@ use Rattle.theory_meaning.specs.Act.{ScopeEntry}
 use Rattle.theory_meaning.specs.Calls.{same_key}
 use Rattle.theory_meaning.specs.Engine.{Engine}
 use Rattle.theory_meaning.specs.Faults.{IsWellFormedScript, AreWellFormedFunctions}
-use Rattle.theory_meaning.specs.Tree.{Function, Script}
+use Rattle.theory_meaning.specs.Tree.{Function, Script, Stmts}
 use Rattle.theory_meaning.specs.Walk.{over_functions, over_stmts}
 use Rattle.theory_meaning.proofs.PureTrees.{split}
 use Rattle.ast_types.specs.Reading.{function_of, stmts_of}
 use Rattle.theory_rewriting.specs.Context.{Context, Whole, knowing}
 use Rattle.theory_rewriting.specs.Finished.{AreFinished, IsFinishedScript}
-use Rattle.theory_rewriting.specs.Known.{Known}
+use Rattle.theory_rewriting.specs.Known.{Known, Agrees, look_global}
 use Rattle.theory_rewriting.specs.Reducible.{AreIrreducibleBodies, IsIrreducibleScript}
 use Rattle.theory_rewriting.specs.Rewriting.{StmtsTo, same_stmts}
-use Rattle.theory_rewriting.specs.Scripts.{captures_nothing, known_at_top, known_in_bodies, known_inside, MayKnow, nothing_known, none_capture, FunctionsTo, OptimisedTo, ScriptTo}
+use Rattle.theory_rewriting.specs.Scripts.{captures_nothing, known_at_top, known_in_bodies, known_globals, MayKnow, nothing_known, none_capture, FunctionsTo, OptimisedTo, ScriptTo, known_inside}
 use Rattle.theory_soundness.proofs.Finishing.{finished_stays}
 use Rattle.theory_soundness.proofs.Irreducible.{body_irreducible}
 use Rattle.theory_soundness.specs.Kept.{Keeps}
@@ -27,6 +28,9 @@ use Rattle.theory_soundness.specs.Refines.{RefinesWhere}
 use Rattle.theory_soundness.proofs.soundness.Following.{keeps_then, refines_then}
 use Rattle.theory_soundness.proofs.kept.Kept.{captures_nothing_still, script_keeps}
 use Rattle.theory_soundness.proofs.soundness.Start.{agrees_inside}
+use Rattle.theory_soundness.proofs.soundness.Globals.{Promises, globals_in_bodies, look_with_globals, none_at_top, promises_nothing}
+use Rattle.theory_soundness.proofs.simulation.Agreement.{KnowsNoGlobal}
+use Rattle.theory_meaning.specs.Desugar.{core_stmts}
 use Rattle.theory_soundness.proofs.soundness.Whole.{functions_same, optimised_refines, script_refines}
 use Rattle.opt_base.specs.Walks.{capture_walk, listing}
 use Rattle.script_tables.specs.FnKey.{definition_key, definitions_table}
@@ -70,7 +74,7 @@ source_apart ss fs h =
     both_true (over_stmts capture_walk (stmts_of ss)) (over_functions capture_walk (table_of gs)) z.0 (table_apart [] gs refl z.1)
 
 -- what bodies know may be known of the script
-may_know : (r : Engine) (start : List ScopeEntry) (ss : List Stmt) (fs : List (Rc ScriptFuncDef Global)) → MayKnow (source_of ss fs) (known_inside r start (listing ss fs))
+may_know : (r : Engine) (start : List ScopeEntry) (ss : List Stmt) (fs : List (Rc ScriptFuncDef Global)) → MayKnow (source_of ss fs) (known_outside r start (listing ss fs))
 may_know r start ss fs = by (captures_nothing (listing ss fs)) refl where
   by : (b : Bool) → captures_nothing (listing ss fs) ≡ b → MayKnow (source_of ss fs) (cond b (known_in_bodies r start) [])
   by true h = none_capture (source_apart ss fs h)
@@ -95,7 +99,7 @@ full_optimises : level.Full ≢ level.None
 full_optimises e = cc
 
 abbrev Inside : Engine → List ScopeEntry → List Stmt → List (Rc ScriptFuncDef Global) → List Known
-Inside r start ss fs = known_inside r start (listing ss fs)
+Inside r start ss fs = known_outside r start (listing ss fs)
 
 -- the functions of the one and of the other, by their tables
 of_tables : (k : Context) (fs fs' : List (Rc ScriptFuncDef Global)) → FunctionsTo k (map function_of (definitions_table (map rc_value fs))) (map function_of (definitions_table (map rc_value fs'))) → FunctionsTo k (table_of (map function_of (map rc_value fs))) (table_of (map function_of (map rc_value fs')))
@@ -124,14 +128,31 @@ own_still fs fs' own run =
 source_listed : (ss : List Stmt) (fs : List (Rc ScriptFuncDef Global)) → IsOwnTable fs → source_of ss fs ≡ listing ss fs
 source_listed ss fs own = λ i. record { statements = stmts_of ss; functions = (sym (table_meant (map rc_value fs)) ∙ ap (map function_of) own) i }
 
-inside_source : (r : Engine) (start : List ScopeEntry) (ss : List Stmt) (fs : List (Rc ScriptFuncDef Global)) → IsOwnTable fs → known_inside r start (source_of ss fs) ≡ Inside r start ss fs
-inside_source r start ss fs own = ap (known_inside r start) (source_listed ss fs own)
+inside_source : (r : Engine) (start : List ScopeEntry) (ss : List Stmt) (fs : List (Rc ScriptFuncDef Global)) → IsOwnTable fs → known_outside r start (source_of ss fs) ≡ Inside r start ss fs
+inside_source r start ss fs own = ap (known_outside r start) (source_listed ss fs own)
 
-inside_by : (r : Engine) (start : List ScopeEntry) (p q : Script) → (captures_nothing p ≡ true → captures_nothing q ≡ true) → (captures_nothing p ≡ false → q ≡ p) → known_inside r start q ≡ known_inside r start p
+inside_by : (r : Engine) (start : List ScopeEntry) (p q : Script) → (captures_nothing p ≡ true → captures_nothing q ≡ true) → (captures_nothing p ≡ false → q ≡ p) → known_outside r start q ≡ known_outside r start p
 inside_by r start p q f g = by (captures_nothing p) refl where
-  by : (b : Bool) → captures_nothing p ≡ b → known_inside r start q ≡ known_inside r start p
+  by : (b : Bool) → captures_nothing p ≡ b → known_outside r start q ≡ known_outside r start p
   by true h = ap (λ c. cond c (known_in_bodies r start) []) (f h ∙ sym h)
-  by false h = ap (known_inside r start) (g h)
+  by false h = ap (known_outside r start) (g h)
+
+-- ---- what is told holds, and says nothing of the script's own constants
+
+agrees_outside : (r : Engine) (start : List ScopeEntry) (p : Script) → Agrees r.constants (known_outside r start p) []
+agrees_outside r start p = by (captures_nothing p) (agrees_inside r start p) where
+  by : (b : Bool) → Agrees r.constants (cond b (known_in_bodies r start ++ known_globals p.statements) []) [] → Agrees r.constants (cond b (known_in_bodies r start) []) []
+  by true a = record { is = λ x v h. a.is x v (look_with_globals (known_in_bodies r start) p.statements x ∙ h) }
+  by false a = a
+
+none_outside : (r : Engine) (start : List ScopeEntry) (p : Script) → KnowsNoGlobal (known_outside r start p)
+none_outside r start p x = by (captures_nothing p) where
+  by : (b : Bool) → look_global (cond b (known_in_bodies r start) []) x ≡ None
+  by true = ap (λ ks. look_global ks x) (sym (append-nil (known_in_bodies r start))) ∙ globals_in_bodies r start [] x
+  by false = refl
+
+outside_promised : (r : Engine) (start : List ScopeEntry) (p : Script) (ss : Stmts) → Promises (known_outside r start p) (core_stmts false ss)
+outside_promised r start p ss = promises_nothing (known_outside r start p) (none_outside r start p) (core_stmts false ss)
 
 -- ---- bodies again
 
@@ -199,7 +220,7 @@ module _ {r : Engine} {start : List ScopeEntry} {ss : List Stmt} {fs : List (Rc 
     second_to = record { statements = same_stmts; functions = of_tables (knowing r (Inside r start ss' p.between)) p.between fs' (functions_to (table_run p.second.run)) }
 
     both_refine : RefinesWhere r (known_at_top r start) (source_of ss fs) (source_of ss' fs')
-    both_refine = refines_then (script_refines first_to (may_know r start ss fs) (agrees_inside r start (listing ss fs))) (script_refines second_to (may_know r start ss' p.between) (agrees_inside r start (listing ss' p.between)))
+    both_refine = refines_then (script_refines first_to (may_know r start ss fs) (outside_promised r start (listing ss fs) (stmts_of ss)) (agrees_outside r start (listing ss fs)) (none_at_top r start)) (script_refines second_to (may_know r start ss' p.between) (outside_promised r start (listing ss' p.between) (stmts_of ss')) (agrees_outside r start (listing ss' p.between)) (none_at_top r start))
 
     both_keep : Keeps (source_of ss fs) (source_of ss' fs')
     both_keep = keeps_then (script_keeps first_to) (script_keeps second_to)
@@ -223,19 +244,19 @@ module _ {r : Engine} {start : List ScopeEntry} {ss : List Stmt} {fs : List (Rc 
           (λ h. captures_nothing_still {engine = r} {top = known_at_top r start} {inner = Inside r start ss' p.between} (record { statements = same_stmts {ss = stmts_of ss'}; functions = functions_to p.second.run }) h)
           (λ h. ap (listing ss') (p.second.kept h))
 
-      both_finished : IsFinishedScript r (known_at_top r start) (known_inside r start (source_of ss' fs')) (source_of ss' fs')
+      both_finished : IsFinishedScript r (known_at_top r start) (known_outside r start (source_of ss' fs')) (source_of ss' fs')
       both_finished =
           let k = inside_source r start ss' fs' last_own ∙ inside_last in
           record {
             statements = p.finished;
-            functions = subst (λ gs. AreFinished (knowing r (known_inside r start (source_of ss' fs'))) gs) (table_meant (map rc_value fs'))
+            functions = subst (λ gs. AreFinished (knowing r (known_outside r start (source_of ss' fs'))) gs) (table_meant (map rc_value fs'))
                 (subst (λ ks. AreFinished (knowing r ks) (map function_of (definitions_table (map rc_value fs')))) (sym k) (bodies_finished (table_run p.second.run)));
           }
 
-      both_stay : IsFinishedScript r (known_at_top r start) (known_inside r start (source_of ss fs)) (source_of ss fs) → source_of ss' fs' ≡ source_of ss fs
+      both_stay : IsFinishedScript r (known_at_top r start) (known_outside r start (source_of ss fs)) (source_of ss fs) → source_of ss' fs' ≡ source_of ss fs
       both_stay h =
           let a = finished_stays r (known_at_top r start) (Inside r start ss fs) (source_of ss fs) (source_of ss' p.between) (subst (λ ks. IsFinishedScript r (known_at_top r start) ks (source_of ss fs)) (inside_source r start ss fs own) h) first_to in
-          let g = subst (λ q. IsFinishedScript r (known_at_top r start) (known_inside r start q) q) (sym a) h in
+          let g = subst (λ q. IsFinishedScript r (known_at_top r start) (known_outside r start q) q) (sym a) h in
           finished_stays r (known_at_top r start) (Inside r start ss' p.between) (source_of ss' p.between) (source_of ss' fs') (subst (λ ks. IsFinishedScript r (known_at_top r start) ks (source_of ss' p.between)) (inside_source r start ss' p.between between_own) g) second_to ∙ a
 
   module _ {l : OptimizationLevel} (p : PartsOptimised r start l ss fs ss' fs' number) where
@@ -249,7 +270,7 @@ module _ {r : Engine} {start : List ScopeEntry} {ss : List Stmt} {fs : List (Rc 
     untouched_is h = λ i. record { statements = stmts_of ((p.none h).0 i); functions = table_of (map function_of ((p.none h).1.0 i)) }
 
   refined : (l : OptimizationLevel) → PartsOptimised r start l ss fs ss' fs' number → RefinesWhere r (known_at_top r start) (source_of ss fs) (source_of ss' fs')
-  refined level.None p = script_refines (untouched_to p refl) (may_know r start ss fs) (agrees_inside r start (listing ss fs))
+  refined level.None p = script_refines (untouched_to p refl) (may_know r start ss fs) (outside_promised r start (listing ss fs) (stmts_of ss)) (agrees_outside r start (listing ss fs)) (none_at_top r start)
   refined level.Simple p = both_refine (p.some simple_optimises)
   refined level.Full p = both_refine (p.some full_optimises)
 
@@ -263,7 +284,7 @@ module _ {r : Engine} {start : List ScopeEntry} {ss : List Stmt} {fs : List (Rc 
   headers_to level.Simple p = both_headers (p.some simple_optimises)
   headers_to level.Full p = both_headers (p.some full_optimises)
 
-  finished_stay : (l : OptimizationLevel) → PartsOptimised r start l ss fs ss' fs' number → IsOwnTable fs → IsFinishedScript r (known_at_top r start) (known_inside r start (source_of ss fs)) (source_of ss fs) → source_of ss' fs' ≡ source_of ss fs
+  finished_stay : (l : OptimizationLevel) → PartsOptimised r start l ss fs ss' fs' number → IsOwnTable fs → IsFinishedScript r (known_at_top r start) (known_outside r start (source_of ss fs)) (source_of ss fs) → source_of ss' fs' ≡ source_of ss fs
   finished_stay level.None p own h = untouched_is p refl
   finished_stay level.Simple p own h = both_stay (p.some simple_optimises) own h
   finished_stay level.Full p own h = both_stay (p.some full_optimises) own h

@@ -1,4 +1,5 @@
 -- The promise of the optimiser.
+use Rattle.rhai_optimizer.specs.Scopes.{known_outside}
 use Rattle.std.specs.Prelude.{◌≡◌, ◌≢◌, ◌≤◌, ◌⊎◌, ℕ, Bool, true, false, List, [], ◌∷◌, map, None}
 use Rattle.std.specs.Rc.{rc_value}
 use Rattle.std.specs.declared.alloc.Global.{Global}
@@ -16,7 +17,7 @@ use Rattle.theory_soundness.specs.Passes.{PassesWithin}
 use Rattle.theory_rewriting.specs.Reducible.{IsIrreducibleScript}
 use Rattle.theory_soundness.specs.Refines.{RefinesWhere}
 use Rattle.theory_rewriting.specs.Rewriting.{StmtsTo}
-use Rattle.theory_rewriting.specs.Scripts.{captures_nothing, known_at_top, known_inside}
+use Rattle.theory_rewriting.specs.Scripts.{captures_nothing, known_at_top}
 use Rattle.theory_rewriting.specs.Steps.{IsReducedBody}
 use Rattle.ast_types.specs.Reading.{stmts_of}
 use Rattle.opt_base.specs.Walks.{listing}
@@ -52,8 +53,8 @@ pub record Becomes (r : Engine) (start : List ScopeEntry) (l : OptimizationLevel
   pub reduced : l ≢ level.None → IsReducedScript r p'
   -- More than that: no rule applies anywhere in it, with what is known of it then. And what is so already comes out as it is: so what was
   -- optimised comes back when it is optimised again.
-  pub finished : l ≢ level.None → IsFinishedScript r (known_at_top r start) (known_inside r start p') p'
-  pub stays : IsFinishedScript r (known_at_top r start) (known_inside r start p) p → p' ≡ p
+  pub finished : l ≢ level.None → IsFinishedScript r (known_at_top r start) (known_outside r start p') p'
+  pub stays : IsFinishedScript r (known_at_top r start) (known_outside r start p) p → p' ≡ p
 
 -- And of the script as it is declared:
 pub record Optimised (r : Engine) (start : List ScopeEntry) (l : OptimizationLevel) (before after : Contents) : Type 0 where
@@ -70,7 +71,7 @@ given ss fs = record { source = None; doc = []; statements = ss; id = None; func
 
 -- bodies under what these statements and functions let them know
 abbrev pub BodiesRun : Engine → List ScopeEntry → List Stmt → List (Rc ScriptFuncDef Global) → List (Rc ScriptFuncDef Global) → Type 0
-BodiesRun r start ss fs fs' = FunctionsRun r (known_inside r start (listing ss fs)) (map rc_value fs) (map rc_value fs')
+BodiesRun r start ss fs fs' = FunctionsRun r (known_outside r start (listing ss fs)) (map rc_value fs) (map rc_value fs')
 
 -- a script's parts, optimised once; whether a call of the source captures, if it has functions
 pub record PartsOnce (r : Engine) (start : List ScopeEntry) (captured : Bool) (ss : List Stmt) (fs : List (Rc ScriptFuncDef Global)) (ss' : List Stmt) (fs' : List (Rc ScriptFuncDef Global)) : Type 0 where

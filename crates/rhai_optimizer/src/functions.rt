@@ -9,7 +9,7 @@ ghost use Rattle.std.specs.Rc.{rc_value};
 ghost use Rattle.opt_base.specs.Walks.{listing};
 ghost use Rattle.opt_base.specs.State.{progress};
 ghost use Rattle.rhai_optimizer.specs.Functions.{BodyRun, FunctionRun, FunctionsRun};
-ghost use Rattle.rhai_optimizer.specs.Scopes.{start_of};
+ghost use Rattle.rhai_optimizer.specs.Scopes.{known_outside, start_of};
 ghost use Rattle.opt_reducer.specs.Parts.{record_of};
 ghost use Rattle.ast_types.specs.declared.script_fn.ScriptFuncDef.{ScriptFuncDef as Declared};
 ghost use Rattle.ast_types.specs.declared.stmt.Stmt.{Stmt as Statement};
@@ -17,7 +17,6 @@ ghost use Rattle.std.specs.declared.alloc.Global.{Global};
 ghost use Rattle.std.specs.declared.rc.Rc.{Rc as Shared};
 ghost use Rattle.rhai_optimizer.specs.Optimised.{BodiesAgain, PartsOnce};
 ghost use Rattle.theory_rewriting.specs.Known.{shadow_all};
-ghost use Rattle.theory_rewriting.specs.Scripts.{known_inside};
 
 use crate::passes::make_passes;
 use crate::start::push_in_bodies;
@@ -136,7 +135,7 @@ fn push_inside<'a>(
     ensures { OnOk result
         ((progress state.old).known ≡ []
         → (progress state.new).known
-        ≡ known_inside (record_of optimizer.now) (start_of (option_map deref scope.entry))
+        ≡ known_outside (record_of optimizer.now) (start_of (option_map deref scope.entry))
         (listing statements.now functions.now)) }
 {
     if captures_nothing(statements, functions) {
@@ -154,7 +153,7 @@ pub(crate) fn optimize_functions<'a>(
 ) -> Result<Vec<Rc<ScriptFuncDef>>, OutOfMemory>
     ensures { IfOk result (λ made.
         FunctionsRun (record_of optimizer.now)
-        (known_inside (record_of optimizer.now) (start_of (option_map deref scope.entry))
+        (known_outside (record_of optimizer.now) (start_of (option_map deref scope.entry))
         (listing statements.now functions.items))
         (map rc_value functions.items) (map rc_value made.items)) }
 {

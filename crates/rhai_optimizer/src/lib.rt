@@ -6,5 +6,5 @@ mod optimizer;
 mod passes;
 mod start;
 
-pub use opt_base::{OptimizationLevel, OptimizerState};
+pub use opt_base::{KnownNames, OptimizationLevel, OptimizerState};
 pub use optimizer::{optimize_ast, optimize_counted, optimize_into_ast};

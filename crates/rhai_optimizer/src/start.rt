@@ -6,6 +6,7 @@ ghost use Rattle.std.specs.Prelude.{◌≡◌, ◌∷◌, None, OnOk, Some, cond
 ghost use Rattle.std.specs.Map.Iter.{deref};
 ghost use Rattle.std.specs.Option.{option_map};
 ghost use Rattle.rhai_base.specs.Reading.{value_of};
+ghost use Rattle.theory_meaning.specs.Act.{OfName};
 ghost use Rattle.opt_base.specs.Bindings.{read};
 ghost use Rattle.opt_base.specs.State.{progress};
 ghost use Rattle.rhai_optimizer.specs.Scopes.{constants_onto, given_onto, known_onto};
@@ -39,7 +40,7 @@ fn push_entry<'a>(
     ensures { OnOk result
         ((state.new.is_dirty ≡ state.old.is_dirty)
         × ((progress state.new).known
-        ≡ record { name = name.now; value = option_map value_of (cond is_constant (Some value.now) None) }
+        ≡ record { root = OfName name.now; value = option_map value_of (cond is_constant (Some value.now) None) }
         ∷ (progress state.old).known)) }
 {
     let name = ImmutableString::new(alloc, name)?;

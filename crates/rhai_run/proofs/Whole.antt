@@ -9,7 +9,7 @@ use Rattle.theory_meaning.specs.Core as core
 use Rattle.theory_meaning.specs.Desugar.{core_function, core_script, core_stmts}
 use Rattle.theory_meaning.specs.Engine.{Engine}
 use Rattle.theory_meaning.specs.Meaning.{acts}
-use Rattle.theory_meaning.specs.Run.{AtStatements, Report, end_of, exports, names, report_of, run_script, world_of}
+use Rattle.theory_meaning.specs.Run.{AtStatements, Report, end_of, exports, names, report_of, run_script, started, world_of}
 use Rattle.theory_meaning.specs.Tree.{Script}
 use Rattle.run_state.specs.declared.state.Interrupt.{Interrupt}
 use Rattle.run_state.specs.declared.state.Interrupt.TheVariants.{NoMemory, Return, Break, Continue, Throw, Stuck, OutOfTurns}
@@ -35,7 +35,7 @@ report_at s e = record { ended = end_meant e; variables = names (map entry_meant
 with_agreeing : (engine : Engine) (host : Host) (p : core.Script) (scope : List ScopeEntry) (n : ℕ) (r : Report) → r ≡ report_of AtStatements (run_script engine host p AtStatements scope n) → ReportsRun engine host p scope n r
 with_agreeing engine host p scope n r e h g = e ∙ same_report engine host h p AtStatements scope n (subst (λ x. AgreeOn host h x.calls) e g)
 
-module _ (engine : Engine) (host : Host) (p : Script) (scope : List ScopeEntry) (n : ℕ) (s s1 : State) (at_start : store_of s ≡ record { scope = scope; this = None; calls = [] }) (turns : s.turns ≡ n) where
+module _ (engine : Engine) (host : Host) (p : Script) (scope : List ScopeEntry) (n : ℕ) (s s1 : State) (at_start : store_of s ≡ started scope) (turns : s.turns ≡ n) where
   abbrev whole_acts : Acts
   whole_acts = acts (script_setting engine host p).world true (core_stmts false p.statements) UnitV
 

@@ -54,6 +54,8 @@ pub fn plain_run<H: Host>(
     let run_end = run_end(ended)?;
     let State {
         scope,
+        globals: _,
+        is_own: _,
         this: _,
         calls,
         turns,

@@ -9,6 +9,8 @@ use Rattle.theory_meaning.specs.Act.{Gives, Leaves, Returns, Throws, Outcome, En
 use Rattle.theory_meaning.specs.Core.{Function}
 use Rattle.theory_meaning.specs.Meaning.{acts}
 use Rattle.theory_meaning.specs.Run.{call_body, entered, function_of, reversed}
+use Rattle.theory_meaning.specs.Relations.{store_of as store_after}
+use Rattle.theory_meaning.proofs.Globals.{globals_kept_all}
 use Rattle.run_state.specs.declared.state.Interrupt.{Interrupt}
 use Rattle.run_state.specs.declared.state.Interrupt.TheVariants.{NoMemory, Return, Break, Continue, Throw, Stuck, OutOfTurns}
 use Rattle.run_state.specs.declared.state.State.{State}
@@ -22,7 +24,7 @@ module _ (here : Setting) (a : ScriptCall) (next : Value → Option Value → Ac
   after_call old d o st t = call_then old (At (returned_outcome o) st t) (λ v u. run here.world (env here d) (next v u))
 
   abbrev pub entry : State → Store
-  entry s = entered true f a (store_of s).scope (store_of s).calls
+  entry s = entered true f a (store_of s)
 
   module _ (s b0 b1 : State) (t : s.turns ≡ suc b0.turns) (start : store_of b0 ≡ entry s) where
     body_run : (o : Outcome) (d : ℕ) → s.turns ≤ d → Goes here (Listing (acts here.world true f.body UnitV)) b0 (Over o) b1 → run here.world (env here d) (Invoke a next) (store_of s) s.turns ≡ after_call (store_of s) d o (store_of b1) b1.turns
@@ -30,19 +32,29 @@ module _ (here : Setting) (a : ScriptCall) (next : Value → Option Value → Ac
     body_run o (suc d) le q =
         let body : Store → ℕ → act.Result = λ st n. returned (run_all here.world (env here d) (acts here.world true f.body UnitV) st n) in
         let whole : act.Result → act.Result = λ r. call_then (store_of s) r (λ v u. run here.world (env here (suc d)) (next v u)) in
-        ap (λ o. whole (call_body true here.world (env here d) o a (store_of s).scope (store_of s).calls s.turns)) found
+        ap (λ o. whole (call_body true here.world (env here d) o a (store_of s) s.turns)) found
         ∙ ap (λ n. whole (with_turn n (entry s) body)) t
         ∙ ap (λ st. whole (body st b0.turns)) (sym start)
         ∙ ap (λ r. whole (returned r)) (q.runs d (omega (arith, t, le)))
 
-    module _ (s' : State) (back : store_of s' ≡ record (store_of s) { calls = (store_of b1).calls }) (left : s'.turns ≡ b1.turns) where
+    -- a body declares nothing that functions see
+    globals_back : (o : Outcome) → Goes here (Listing (acts here.world true f.body UnitV)) b0 (Over o) b1 → (store_of b1).globals ≡ (store_of s).globals
+    globals_back o q =
+        ap (λ r. (store_after r).globals) (sym (q.runs b0.turns (omega arith)))
+        ∙ globals_kept_all here.world (env here b0.turns) (acts here.world true f.body UnitV) (store_of b0) b0.turns (ap (λ (st : Store). st.is_own) start)
+        ∙ ap (λ (st : Store). st.globals) start
+
+    module _ (s' : State) (resumed : store_of s' ≡ record (store_of s) { globals = (store_of b1).globals; calls = (store_of b1).calls }) (left : s'.turns ≡ b1.turns) where
+      back : (o : Outcome) → Goes here (Listing (acts here.world true f.body UnitV)) b0 (Over o) b1 → store_of s' ≡ record (store_of s) { calls = (store_of b1).calls }
+      back o q = resumed ∙ ap (λ bs. record (store_of s) { globals = bs; calls = (store_of b1).calls }) (globals_back o q)
+
       given_back : (o : Outcome) (v : Value) → returned_outcome o ≡ Ended (Gives v) → Goes here (Listing (acts here.world true f.body UnitV)) b0 (Over o) b1 → Goes here (Acting (Invoke a next)) s (Acting (next v (store_of b1).this)) s'
       given_back o v h q = record {
         turns = omega (arith, t, left, q.turns);
         runs = λ d le.
             body_run o d le q
             ∙ ap (λ x. call_then (store_of s) (At x (store_of b1) b1.turns) (λ v u. run here.world (env here d) (next v u))) h
-            ∙ (λ i. run here.world (env here d) (next v (store_of b1).this) (sym back i) (sym left i));
+            ∙ (λ i. run here.world (env here d) (next v (store_of b1).this) (sym (back o q) i) (sym left i));
       }
 
       -- an end that is no value
@@ -56,7 +68,7 @@ module _ (here : Setting) (a : ScriptCall) (next : Value → Option Value → Ac
             body_run o d le q
             ∙ ap (λ x. call_then (store_of s) (At x (store_of b1) b1.turns) (λ v u. run here.world (env here d) (next v u))) h
             ∙ e (store_of s) (store_of b1) b1.turns (λ v u. run here.world (env here d) (next v u))
-            ∙ (λ i. At o' (sym back i) (sym left i));
+            ∙ (λ i. At o' (sym (back o q) i) (sym left i));
       }
 
       by_body : (r : Result Dynamic Interrupt) → Leads here (Listing (acts here.world true f.body UnitV)) b0 r b1 (λ v. given (value_of v)) → Leads here (Acting (Invoke a next)) s (function_end r) s' (λ v. Acting (next (value_of v) (store_of b1).this))
@@ -87,11 +99,11 @@ module _ (here : Setting) (a : ScriptCall) (next : Value → Option Value → Ac
     late (suc d) =
         let whole : act.Result → act.Result = λ r. call_then (store_of s) r (λ v u. run here.world (env here (suc d)) (next v u)) in
         ap (λ n. run here.world (env here (suc d)) (Invoke a next) (store_of s) n) t
-        ∙ ap (λ o. whole (call_body true here.world (env here d) o a (store_of s).scope (store_of s).calls 0)) found
+        ∙ ap (λ o. whole (call_body true here.world (env here d) o a (store_of s) 0)) found
 
 -- back in the caller's state
-pub back_is : (s s1 s2 s3 b : State) → store_of s1 ≡ store_of s → s2.scope ≡ s1.scope → s2.this ≡ s1.this → store_of s3 ≡ record (store_of s2) { calls = (store_of b).calls } → store_of s3 ≡ record (store_of s) { calls = (store_of b).calls }
-back_is s s1 s2 s3 b same scope this resumed =
+pub back_is : (s s1 s2 s3 b : State) → store_of s1 ≡ store_of s → s2.scope ≡ s1.scope → s2.this ≡ s1.this → s2.is_own ≡ s1.is_own → store_of s3 ≡ record (store_of s2) { globals = (store_of b).globals; calls = (store_of b).calls } → store_of s3 ≡ record (store_of s) { globals = (store_of b).globals; calls = (store_of b).calls }
+back_is s s1 s2 s3 b same scope this own resumed =
     resumed
-    ∙ (λ i. record { scope = reversed (map entry_meant (scope i).items) []; this = option_map value_of (this i); calls = (store_of b).calls })
-    ∙ ap (λ (st : Store). record { scope = st.scope; this = st.this; calls = (store_of b).calls }) same
+    ∙ (λ i. record { scope = reversed (map entry_meant (scope i).items) []; globals = (store_of b).globals; is_own = own i; this = option_map value_of (this i); calls = (store_of b).calls })
+    ∙ ap (λ (st : Store). record { scope = st.scope; globals = (store_of b).globals; is_own = st.is_own; this = st.this; calls = (store_of b).calls }) same

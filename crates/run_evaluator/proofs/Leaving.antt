@@ -19,7 +19,7 @@ use Rattle.run_state.specs.Evaluating.{RunsBlock, RunsCatch, RunsLine}
 use Rattle.run_state.specs.Exits.{body_end, branch_end}
 use Rattle.run_state.specs.Runs.{Setting, Task, Acting, Listing, Over, Goes, Leads, Runs, given, env}
 use Rattle.run_state.specs.State.{named_in, store_of}
-use Rattle.run_state.proofs.Goes.{goes_then, gives, leads_then, halted_then, ending_goes, scoped_leads, line_leads, line_stops, named_goes, Cut}
+use Rattle.run_state.proofs.Goes.{goes_then, gives, leads_then, halted_then, ending_goes, scoped_leads, line_leads, line_stops, named_goes, Inside}
 
 module _ (here : Setting) where
   -- ---- `try`
@@ -61,13 +61,13 @@ module _ (here : Setting) where
   branch_leads p caught s s1 (Err OutOfTurns) q = halted_then here (λ e. end_branch (value_of caught) e) q
 
   -- the branch with its name, cut off again
-  pub catch_runs : (ss : core.Stmts) (x : Option Text) (caught : Dynamic) (s s1 s2 s3 : State) (names : ℕ) (ended r : Result Dynamic Interrupt) → names ≡ length s.scope.items → store_of s1 ≡ named_in x (value_of caught) (store_of s) → s1.turns ≡ s.turns → Leads here (Listing (acts here.world false ss UnitV)) s1 ended s2 (λ v. given UnitV) → Cut here names s2 s3 → r ≡ branch_end ended caught → RunsCatch here ss x (value_of caught) s r s3
-  catch_runs ss x caught s s1 s2 s3 names ended r h k t q c e =
+  pub catch_runs : (ss : core.Stmts) (x : Option Text) (caught : Dynamic) (s s1 s2 s3 s4 : State) (ended r : Result Dynamic Interrupt) → store_of s2 ≡ named_in x (value_of caught) (store_of s1) → s2.turns ≡ s1.turns → Leads here (Listing (acts here.world false ss UnitV)) s2 ended s3 (λ v. given UnitV) → Inside here s s1 s3 s4 → r ≡ branch_end ended caught → RunsCatch here ss x (value_of caught) s r s4
+  catch_runs ss x caught s s1 s2 s3 s4 ended r k t q c e =
       let p = acts here.world false ss UnitV in
-      let start : Goes here (Listing (named x (value_of caught) p)) s (Listing p) s1 = named_goes here x (value_of caught) p s s1 k t in
-      let listed : Leads here (Listing (named x (value_of caught) p)) s ended s2 (λ v. given UnitV) = leads_then here s2 ended (λ v. given UnitV) start q in
-      let scoped = scoped_leads here (named x (value_of caught) p) s s2 s3 names ended (λ v. UnitV) h c listed in
-      subst (λ o. Runs here (Acting (Then (Scoped (named x (value_of caught) p)) (λ y. end_branch (value_of caught) y))) s o s3) (sym e) (branch_leads (named x (value_of caught) p) caught s s3 ended scoped)
+      let start : Goes here (Listing (named x (value_of caught) p)) s1 (Listing p) s2 = named_goes here x (value_of caught) p s1 s2 k t in
+      let listed : Leads here (Listing (named x (value_of caught) p)) s1 ended s3 (λ v. given UnitV) = leads_then here s3 ended (λ v. given UnitV) start q in
+      let scoped = scoped_leads here (named x (value_of caught) p) s s1 s3 s4 ended (λ v. UnitV) c listed in
+      subst (λ o. Runs here (Acting (Then (Scoped (named x (value_of caught) p)) (λ y. end_branch (value_of caught) y))) s o s4) (sym e) (branch_leads (named x (value_of caught) p) caught s s4 ended scoped)
 
   module _ (loop : Bool) (e : tree.Expr) (a b : tree.Stmts) where
     abbrev try_line : core.Stmt

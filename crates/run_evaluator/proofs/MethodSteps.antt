@@ -101,13 +101,13 @@ module _ (here : Setting) (f : Text) (v : Value) (vs : List Value) (s s1 : State
 
   -- it leaves the names
   call_keeps : (old : Store) (r : act.Result) (d : ℕ) → Names (call_then old r (λ w u st t. run here.world (env here d) (give w) st t)) old
-  call_keeps old (At (Ended (Gives w)) st t) d = (refl, refl)
-  call_keeps old (At (Ended (Leaves x)) st t) d = (refl, refl)
-  call_keeps old (At (Halted x) st t) d = (refl, refl)
+  call_keeps old (At (Ended (Gives w)) st t) d = (refl, refl, refl)
+  call_keeps old (At (Ended (Leaves x)) st t) d = (refl, refl, refl)
+  call_keeps old (At (Halted x) st t) d = (refl, refl, refl)
 
   by_keeps : (o : Option Key) (d : ℕ) → Names (run here.world (env here d) (call_by o (λ w u. give w)) (store_of s) s.turns) (store_of s)
-  by_keeps (Some k) d = call_keeps (store_of s) ((env here d).invoke (record { function = k; captures = false; this = Some v; arguments = vs }) (store_of s).scope (store_of s).calls s.turns) d
-  by_keeps None d = answer_keeps here d s.turns (here.world.host.answer (store_of s).calls (record { name = f; receiver = Some v; arguments = vs })) (store_of s) _ (refl, refl)
+  by_keeps (Some k) d = call_keeps (store_of s) ((env here d).invoke (record { function = k; captures = false; this = Some v; arguments = vs }) (store_of s) s.turns) d
+  by_keeps None d = answer_keeps here d s.turns (here.world.host.answer (store_of s).calls (record { name = f; receiver = Some v; arguments = vs })) (store_of s) _ (refl, refl, refl)
 
   names_stay : (p : Dynamic × Option Dynamic) → CallsMethod here f v vs s (Ok p) s1 → KeepsNames (store_of s) (store_of s1)
   names_stay p q = kept_by here _ s s1 _ (by_keeps (method_key here.world f vs v)) (goes_then here (q (λ w u. give w)) (gives here _ _ s1 refl))

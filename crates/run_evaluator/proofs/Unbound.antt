@@ -1,7 +1,8 @@
 -- Where `this` is not bound, it stays so.
 use Rattle.std.proofs.Common.{◌≡◌, ℕ, zero, suc, Bool, true, false, ◌∷◌, [], ◌++◌, List, Option, Some, None}
 use Rattle.rhai_base.specs.Value.{Text, Value}
-use Rattle.theory_meaning.specs.Act.{is_constant, ScopeEntry, Store, World, Again, Ending, Gives, Leaves, Ended, Halted, Result, At, Root, OfName, OfThis, Act, Stop, Fail, Then, Turn, Read, Write, Resolve, AskHost, Invoke, Loop, Scoped, Acts, Only, Do, Named, Finish, Env, and_then, with_turn, found, resolved, read, read_this, read_root, write_at, write, write_this, write_root, leave, call_then, returned, on_again, rounds, run, run_all}
+use Rattle.theory_meaning.specs.Act.{is_constant, ScopeEntry, Store, World, Again, Ending, Gives, Leaves, Ended, Halted, Result, At, Root, OfName, OfGlobal, OfThis, Act, Stop, Fail, Then, Turn, Read, Write, Resolve, AskHost, Invoke, Loop, Scoped, Acts, Only, Do, Named, Finish, Env, and_then, with_turn, found, resolved, read, read_global, read_this, read_root, write_at, write, write_global, write_this, write_root, inside, leave, call_then, returned, on_again, rounds, run, run_all}
+use Rattle.theory_meaning.specs.Engine.{constant_named}
 use Rattle.theory_meaning.specs.Relations.{store_of}
 
 abbrev Unbound : Store → Type 0
@@ -30,12 +31,17 @@ after_read : (o : Option ScopeEntry) (s : Store) (t : ℕ) → Unbound s → Unb
 after_read None s t h = h
 after_read (Some e) s t h = h
 
+after_read_global : (o : Option Value) (s : Store) (t : ℕ) → Unbound s → Unbound (store_of (read_global o s t))
+after_read_global None s t h = h
+after_read_global (Some v) s t h = h
+
 after_read_this : (o : Option Value) (s : Store) (t : ℕ) → Unbound s → Unbound (store_of (read_this o s t))
 after_read_this None s t h = h
 after_read_this (Some v) s t h = h
 
 after_read_root : (w : World) (r : Root) → Keeps (read_root w r)
 after_read_root w (OfName x) s t h = after_read (found w.engine.constants s.scope x) s t h
+after_read_root w (OfGlobal x) s t h = after_read_global (constant_named s.globals x) s t h
 after_read_root w OfThis s t h = after_read_this s.this s t h
 
 after_write_at : (must b : Bool) (x : Text) (v : Value) → Keeps (write_at must b x v)
@@ -47,12 +53,18 @@ after_write : (must : Bool) (o : Option ScopeEntry) (x : Text) (v : Value) → K
 after_write must None x v s t h = h
 after_write must (Some e) x v s t h = after_write_at must (is_constant e.kind) x v s t h
 
+after_write_global : (must : Bool) (o : Option Value) (s : Store) (t : ℕ) → Unbound s → Unbound (store_of (write_global must o s t))
+after_write_global must None s t h = h
+after_write_global true (Some v) s t h = h
+after_write_global false (Some v) s t h = h
+
 after_write_this : (o : Option Value) (v : Value) (s : Store) (t : ℕ) → o ≡ None → Unbound s → Unbound (store_of (write_this o v s t))
 after_write_this None v s t e h = h
 after_write_this (Some u) v s t e h = cc
 
 after_write_root : (w : World) (must : Bool) (r : Root) (v : Value) → Keeps (write_root w must r v)
 after_write_root w must (OfName x) v s t h = after_write must (found w.engine.constants s.scope x) x v s t h
+after_write_root w must (OfGlobal x) v s t h = after_write_global must (constant_named s.globals x) s t h
 after_write_root w must OfThis v s t h = after_write_this s.this v s t h h
 
 after_call : (old : Store) (r : Result) (next : Value → Option Value → Store → ℕ → Result) → Unbound old → ((v : Value) (u : Option Value) → Keeps (next v u)) → Unbound (store_of (call_then old r next))
@@ -60,8 +72,8 @@ after_call old (At (Ended (Gives v)) s t) next h k = k v s.this (record old { ca
 after_call old (At (Ended (Leaves x)) s t) next h k = h
 after_call old (At (Halted f) s t) next h k = h
 
-after_leave : (es : List ScopeEntry) (r : Result) → Unbound (store_of r) → Unbound (store_of (leave es r))
-after_leave es (At o s t) h = h
+after_leave : (old : Store) (r : Result) → Unbound (store_of r) → Unbound (store_of (leave old r))
+after_leave old (At o s t) h = h
 
 after_returned : (r : Result) → Unbound (store_of r) → Unbound (store_of (returned r))
 after_returned (At o s t) h = h
@@ -77,9 +89,9 @@ module _ (w : World) (env : Env) where
     unbound (Write must r v) s t h = after_write_root w must r v s t h
     unbound (Resolve a next) s t h = unbound (next (resolved s.scope a)) s t h
     unbound (AskHost c next) s t h = unbound (next (w.host.answer s.calls c)) (record s { calls = s.calls ++ c ∷ [] }) t h
-    unbound (Invoke a next) s t h = after_call s (env.invoke a s.scope s.calls t) _ h (λ v u. unbound (next v u))
+    unbound (Invoke a next) s t h = after_call s (env.invoke a s t) _ h (λ v u. unbound (next v u))
     unbound (Loop a) s t h = after_rounds env.rounds _ (unbound a) s t h
-    unbound (Scoped p) s t h = after_leave s.scope (run_all w env p s t) (unbound_all p s t h)
+    unbound (Scoped p) s t h = after_leave s (run_all w env p (inside s) t) (unbound_all p (inside s) t h)
 
     pub unbound_all : (p : Acts) → Keeps (run_all w env p)
     unbound_all (Only a) s t h = unbound a s t h

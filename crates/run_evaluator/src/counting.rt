@@ -123,9 +123,9 @@ impl<'a, H: Host> Evaluator<'a, H> {
             state.old result state.new }
     {
         state.take_turn()?;
-        let names = state.scope.len();
+        let mark = state.begin_list();
         let ended = self.for_body(state, parts, count, item);
-        state.scope.truncate(names);
+        state.end_list(mark);
         round_ended(ended)
     }
 

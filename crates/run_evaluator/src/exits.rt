@@ -90,10 +90,10 @@ impl<'a, H: Host> Evaluator<'a, H> {
             (core_stmts self.now.in_loop (stmts_of branch.now.block)) (option_copied name.entry) (value_of caught)
             state.old result state.new }
     {
-        let names = state.scope.len();
+        let mark = state.begin_list();
         declare_caught(state, name, &caught)?;
         let ended = self.statements(state, branch.statements());
-        state.scope.truncate(names);
+        state.end_list(mark);
         branch_ended(ended, caught)
     }
 }

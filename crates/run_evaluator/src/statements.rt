@@ -99,9 +99,9 @@ impl<'a, H: Host> Evaluator<'a, H> {
         ensures { RunsBlock (setting H.answers H.modules self.now.machine) self.now.in_loop (stmts_of block.now.block)
             state.old result state.new }
     {
-        let names = state.scope.len();
+        let mark = state.begin_list();
         let ended = self.statements(state, block.statements());
-        state.scope.truncate(names);
+        state.end_list(mark);
         ended
     }
 

@@ -19,7 +19,7 @@ use Rattle.run_state.specs.Evaluating.{RunsCounted, RunsExpr, RunsList, RunsRoun
 use Rattle.run_state.specs.Exits.{count_of, round_of}
 use Rattle.run_state.specs.Runs.{Setting, Acting, Goes, Stops, Runs, given}
 use Rattle.run_state.specs.State.{named_in, store_of, TakesTurn}
-use Rattle.run_state.proofs.Goes.{gives, goes_as, goes_then, leads_then, stops_then, named_goes, scoped_leads, stuck_here, value_goes, Cut}
+use Rattle.run_state.proofs.Goes.{gives, goes_as, goes_then, leads_then, stops_then, named_goes, scoped_leads, stuck_here, value_goes, Inside}
 use Rattle.run_state.proofs.Loops.{round_runs}
 use Rattle.run_state.proofs.Rounds.{again_stops, again_goes, again_ends}
 use Rattle.rhai_base.proofs.OtherKinds.{NoItems}
@@ -139,8 +139,8 @@ module _ (here : Setting) where
 
   -- ---- a round, and its body
 
-  pub for_round_runs : (p : Acts) (s s1 s2 s3 : State) (names : ℕ) (u : Unit) (ended : Result Dynamic Interrupt) (o : Result (Option Dynamic) Interrupt) → TakesTurn s (Ok u) s1 → names ≡ length s1.scope.items → RunsList here p s1 ended s2 → Cut here names s2 s3 → o ≡ round_of ended → RunsRound here p s o s3
-  for_round_runs p s s1 s2 s3 names u ended o t h q c e = round_runs here p s s1 s3 u ended t (scoped_leads here p s1 s2 s3 names ended (λ v. UnitV) h c q) o e
+  pub for_round_runs : (p : Acts) (s s1 s2 s3 s4 : State) (u : Unit) (ended : Result Dynamic Interrupt) (o : Result (Option Dynamic) Interrupt) → TakesTurn s (Ok u) s1 → Inside here s1 s2 s3 s4 → RunsList here p s2 ended s3 → o ≡ round_of ended → RunsRound here p s o s4
+  for_round_runs p s s1 s2 s3 s4 u ended o t c q e = round_runs here p s s1 s4 u ended t (scoped_leads here p s1 s2 s3 s4 ended (λ v. UnitV) c q) o e
 
   pub for_body_runs : (i : Option Text) (x : Text) (k : ℕ) (v : Dynamic) (p : Acts) (s s1 s2 s3 : State) (u : Unit) (r : Result Dynamic Interrupt) → RunsCounted here i k s (Ok u) s1 → store_of s2 ≡ named_in (Some x) (value_of v) (store_of s1) → s2.turns ≡ s1.turns → RunsList here p s2 r s3 → RunsList here (counted i k (Named x IsVariable (value_of v) p)) s r s3
   for_body_runs i x k v p s s1 s2 s3 u r q h t l = leads_then here s3 r (λ w. given UnitV) (goes_then here (q (Named x IsVariable (value_of v) p)) (named_goes here (Some x) (value_of v) p s1 s2 h t)) l

@@ -5,7 +5,7 @@ use Rattle.rhai_base.specs.declared.dynamic.Dynamic.{Dynamic}
 use Rattle.rhai_base.specs.declared.dynamic.Dynamic.TheVariants as value
 use Rattle.rhai_base.specs.Reading.{value_of, value_of-Unit}
 use Rattle.rhai_base.specs.Value.{Text, Value, UnitV}
-use Rattle.theory_meaning.specs.Act.{EntryKind, IsAlias, IsExport, Store, Acts, Named, run_all}
+use Rattle.theory_meaning.specs.Act.{EntryKind, IsAlias, IsExport, Store, Acts, Named, declared, run_all}
 use Rattle.theory_meaning.specs.ActForms.{unit}
 use Rattle.theory_meaning.specs.Core as core
 use Rattle.theory_meaning.specs.Desugar.{alias}
@@ -14,22 +14,22 @@ use Rattle.run_state.specs.declared.state.Interrupt.{Interrupt}
 use Rattle.run_state.specs.declared.state.State.{State}
 use Rattle.run_state.specs.Evaluating.{RunsCore, RunsLine}
 use Rattle.run_state.specs.Runs.{Setting, Listing, Goes, env}
-use Rattle.run_state.specs.State.{store_of, aliased_in, declared_in, with_entry}
+use Rattle.run_state.specs.State.{store_of, aliased_in, declared_in}
 use Rattle.run_state.proofs.Goes.{gives, goes_as, goes_then, line_goes, line_stops, value_goes, value_stops}
 
 pub alias_none : (x : Text) (v : Value) (st : Store) → (length x == 0) ≡ true → aliased_in x v st ≡ st
 alias_none [] v st h = refl
 alias_none (c ∷ cs) v st h = absurd (let z : true ≡ false = sym h ∙ eqb-suc-zero (length cs) in cc)
 
-pub alias_some : (x : Text) (v : Value) (st : Store) → (length x == 0) ≡ false → aliased_in x v st ≡ with_entry x IsAlias v st
+pub alias_some : (x : Text) (v : Value) (st : Store) → (length x == 0) ≡ false → aliased_in x v st ≡ declared x IsAlias v st
 alias_some [] v st h = cc
 alias_some (c ∷ cs) v st h = refl
 
-pub declared_alone : (k : EntryKind) (b : Bool) (x : Text) (v : Value) (st : Store) → b ≡ false → declared_in k b x v st ≡ with_entry x k v st
+pub declared_alone : (k : EntryKind) (b : Bool) (x : Text) (v : Value) (st : Store) → b ≡ false → declared_in k b x v st ≡ declared x k v st
 declared_alone k false x v st h = refl
 declared_alone k true x v st h = cc
 
-pub declared_exported : (k : EntryKind) (b : Bool) (x : Text) (v : Value) (st : Store) → b ≡ true → declared_in k b x v st ≡ with_entry x IsExport v (with_entry x k v st)
+pub declared_exported : (k : EntryKind) (b : Bool) (x : Text) (v : Value) (st : Store) → b ≡ true → declared_in k b x v st ≡ declared x IsExport v (declared x k v st)
 declared_exported k true x v st h = refl
 declared_exported k false x v st h = cc
 

@@ -5,7 +5,7 @@ use Rattle.std.proofs.lemmas.Option.{IfSome_then}
 use Rattle.rhai_base.specs.declared.dynamic.Dynamic.{Dynamic}
 use Rattle.rhai_base.specs.Reading.{value_of}
 use Rattle.rhai_base.specs.Value.{Text, Value}
-use Rattle.theory_meaning.specs.Act.{ScopeEntry, Ending, Gives, Halt, IsStuck, WrongKind, OutOfTurns, Outcome, Ended, Halted, At, Act, Fail, Turn, Then, Acts, Scoped, and_then, leave, restore, with_turn, run, run_all}
+use Rattle.theory_meaning.specs.Act.{Store, Ending, Gives, Halt, IsStuck, WrongKind, OutOfTurns, Outcome, Ended, Halted, At, Act, Fail, Turn, Then, Acts, Scoped, and_then, inside, leave, with_turn, run, run_all}
 use Rattle.theory_meaning.specs.ActForms.{give, value_then, each_value, ◌>>=◌, then_line, branch, choose, if_true, truth}
 use Rattle.theory_meaning.specs.Control.{named}
 use Rattle.theory_meaning.specs.Run.{reversed}
@@ -18,8 +18,7 @@ use Rattle.run_state.specs.Evaluating.{or_stuck}
 use Rattle.run_host.specs.Host.{call_meant}
 use Rattle.run_state.specs.Runs as runs
 use Rattle.run_state.specs.Runs.{Setting, Task, Acting, Listing, Over, Within, run_of, env, Goes, Leaving, Halting, stopped, stop_of, Stops, Leads, Runs, given}
-use Rattle.run_state.specs.State.{store_of, named_in, TakesTurn}
-use Rattle.run_state.proofs.Scopes.{restore_cut_to, length_scope}
+use Rattle.run_state.specs.State.{store_of, named_in, outside, TakesTurn}
 use Rattle.run_state.proofs.ValueAnswers.{or_stuck-ok, or_stuck-err}
 
 module _ (here : Setting) where
@@ -54,8 +53,8 @@ module _ (here : Setting) where
 
   -- ---- an act, and what comes after it
 
-  pub within_goes : {f g : Task} {s s1 : State} (es : List ScopeEntry) → Goes here f s g s1 → Goes here (Within es f) s (Within es g) s1
-  within_goes es p = record { turns = p.turns; runs = λ d le. ap (leave es) (p.runs d le) }
+  within_goes : {f g : Task} {s s1 : State} (old : Store) → Goes here f s g s1 → Goes here (Within old f) s (Within old g) s1
+  within_goes old p = record { turns = p.turns; runs = λ d le. ap (leave old) (p.runs d le) }
 
   -- by how it ends
   pub ending_goes : {a : Act} {s s1 : State} {e : Ending} (next : Ending → Act) → Goes here (Acting a) s (Over (Ended e)) s1 → Goes here (Acting (Then a next)) s (Acting (next e)) s1
@@ -103,31 +102,29 @@ module _ (here : Setting) where
 
   -- ---- names
 
-  -- the names of a state are those of another, cut
-  pub record Cut (names : ℕ) (s s' : State) : Type 0 where
-    pub scope : s'.scope.items ≡ take names s.scope.items
-    pub this : s'.this ≡ s.this
-    pub calls : s'.calls ≡ s.calls
-    pub turns : s'.turns ≡ s.turns
+  -- a list inside ends
+  leave_goes : (old : Store) (s s1 : State) (o : Outcome) → store_of s1 ≡ outside old (store_of s) → s1.turns ≡ s.turns → Goes here (Within old (Over o)) s (Over o) s1
+  leave_goes old s s1 o h t = record { turns = omega (arith, t); runs = λ d le i. At o (sym h i) (sym t i) }
 
-  leave_goes : (es : List ScopeEntry) (names : ℕ) (s s1 : State) (o : Outcome) → length es ≡ names → Cut names s s1 → Goes here (Within es (Over o)) s (Over o) s1
-  leave_goes es names s s1 o h c =
-      let scope = restore_cut_to entry_meant es names s.scope.items h in
-      let same : reversed (map entry_meant s1.scope.items) [] ≡ restore es (reversed (map entry_meant s.scope.items) []) = ap (λ l. reversed (map entry_meant l) []) c.scope ∙ scope in
-      record {
-        turns = omega (arith, c.turns);
-        runs = λ d le i. At o (record { scope = sym same i; this = sym (ap (λ t. option_map value_of t) c.this) i; calls = sym (ap (map call_meant) c.calls) i }) (sym c.turns i);
-      }
+  within_leads : (old : Store) (f : Task) (s s1 s2 : State) (r : Result Dynamic Interrupt) (g : Dynamic → Value) → store_of s2 ≡ outside old (store_of s1) → s2.turns ≡ s1.turns → Leads here f s r s1 (λ v. given (g v)) → Leads here (Within old f) s r s2 (λ v. given (g v))
+  within_leads old f s s1 s2 (Ok v) g h t q = goes_then (within_goes old q) (leave_goes old s1 s2 _ h t)
+  within_leads old f s s1 s2 (Err x) g h t q = IfSome_then (stop_of x) q (λ p k. goes_then (within_goes old k) (leave_goes old s1 s2 _ h t))
 
-  pub within_leads : (es : List ScopeEntry) (names : ℕ) (f : Task) (s s1 s2 : State) (r : Result Dynamic Interrupt) (g : Dynamic → Value) → length es ≡ names → Cut names s1 s2 → Leads here f s r s1 (λ v. given (g v)) → Leads here (Within es f) s r s2 (λ v. given (g v))
-  within_leads es names f s s1 s2 (Ok v) g h c q = goes_then (within_goes es q) (leave_goes es names s1 s2 _ h c)
-  within_leads es names f s s1 s2 (Err x) g h c q = IfSome_then (stop_of x) q (λ p k. goes_then (within_goes es k) (leave_goes es names s1 s2 _ h c))
+  -- it began in the first state and was run from the second to the third one
+  pub record Inside (s s1 s2 s3 : State) : Type 0 where
+    pub begun : store_of s1 ≡ inside (store_of s)
+    pub before : s1.turns ≡ s.turns
+    pub left : store_of s3 ≡ outside (store_of s) (store_of s2)
+    pub after : s3.turns ≡ s2.turns
 
   -- braces
-  pub scoped_leads : (p : Acts) (s s1 s2 : State) (names : ℕ) (r : Result Dynamic Interrupt) (g : Dynamic → Value) → names ≡ length s.scope.items → Cut names s1 s2 → Leads here (Listing p) s r s1 (λ v. given (g v)) → Leads here (Acting (Scoped p)) s r s2 (λ v. given (g v))
-  scoped_leads p s s1 s2 names r g h c q =
-      let long : length (store_of s).scope ≡ names = length_scope entry_meant s.scope.items ∙ sym h in
-      leads_then s2 r (λ v. given (g v)) (record { turns = omega arith; runs = λ d le. refl }) (within_leads (store_of s).scope names (Listing p) s s1 s2 r g long c q)
+  pub scoped_leads : (p : Acts) (s s1 s2 s3 : State) (r : Result Dynamic Interrupt) (g : Dynamic → Value) → Inside s s1 s2 s3 → Leads here (Listing p) s1 r s2 (λ v. given (g v)) → Leads here (Acting (Scoped p)) s r s3 (λ v. given (g v))
+  scoped_leads p s s1 s2 s3 r g c q =
+      let start : Goes here (Acting (Scoped p)) s (Within (store_of s) (Listing p)) s1 = record {
+        turns = omega (arith, c.before);
+        runs = λ d le i. leave (store_of s) (run_all here.world (env here d) p (sym c.begun i) (sym c.before i));
+      } in
+      leads_then s3 r (λ v. given (g v)) start (within_leads (store_of s) (Listing p) s1 s2 s3 r g c.left c.after q)
 
   pub named_goes : (x : Option Text) (v : Value) (p : Acts) (s s1 : State) → store_of s1 ≡ named_in x v (store_of s) → s1.turns ≡ s.turns → Goes here (Listing (named x v p)) s (Listing p) s1
   named_goes None v p s s1 e f = record { turns = omega (arith, f); runs = λ d le i. run_all here.world (env here d) p (sym e i) (sym f i) }

@@ -20,7 +20,7 @@ use Rattle.run_state.specs.declared.state.State.{State}
 use Rattle.run_host.specs.declared.report.Stuck.TheVariants as why
 use Rattle.run_state.specs.Evaluating.{or_stuck, RunsCore, RunsDeed, RunsExpr, RunsLine, RunsStmt, RunsStmts, RunsBlock}
 use Rattle.run_state.specs.Runs.{Setting, Task, Acting, Listing, Goes, Stops, Runs}
-use Rattle.run_state.proofs.Goes.{goes_then, goes_as, stops_then, leads_then, value_goes, value_stops, line_leads, if_goes, if_stops, scoped_leads, Cut}
+use Rattle.run_state.proofs.Goes.{goes_then, goes_as, stops_then, leads_then, value_goes, value_stops, line_leads, if_goes, if_stops, scoped_leads, Inside}
 
 line_of : (xs : List Stmt) (i : ℕ) (l : Stmt) → i < length xs → l ≡ get_or xs i l → stmts_of (drop i xs) ≡ tree.stmt (stmt_of l) (stmts_of (drop (i + 1) xs))
 line_of xs i l h is = stmts_of-drop xs i l h ∙ ap (λ y. tree.stmt (stmt_of y) (stmts_of (drop (i + 1) xs))) (sym is)
@@ -59,8 +59,8 @@ module _ (here : Setting) (loop : Bool) where
   deed_line c s s1 r q = λ next. line_leads here (deed here.world c) next s s1 r q
 
   -- braces
-  pub block_runs : (ss : tree.Stmts) (s s1 s2 : State) (names : ℕ) (r : Result Dynamic Interrupt) → names ≡ length s.scope.items → Cut here names s1 s2 → RunsStmts here loop ss s r s1 → RunsBlock here loop ss s r s2
-  block_runs ss s s1 s2 names r h c q = λ wanted. scoped_leads here _ s s1 s2 names r (λ v. wanted_value wanted (value_of v)) h c (q wanted)
+  pub block_runs : (ss : tree.Stmts) (s s1 s2 s3 : State) (r : Result Dynamic Interrupt) → Inside here s s1 s2 s3 → RunsStmts here loop ss s1 r s2 → RunsBlock here loop ss s r s3
+  block_runs ss s s1 s2 s3 r c q = λ wanted. scoped_leads here _ s s1 s2 s3 r (λ v. wanted_value wanted (value_of v)) c (q wanted)
 
   -- a condition, and the list that it chooses
   module _ (a b : Act) (e : core.Expr) (s s1 : State) where

@@ -8,7 +8,7 @@ use Rattle.theory_meaning.specs.Act.{ScopeEntry, is_called, is_alias, found, put
 use Rattle.theory_meaning.specs.Engine.{Binding}
 use Rattle.theory_meaning.specs.Run.{reversed}
 use Rattle.run_state.specs.declared.entries.Entry.{Entry}
-use Rattle.run_state.specs.Entries.{kind_meant, entry_meant, scope_meant}
+use Rattle.run_state.specs.Entries.{kind_meant, entry_meant, scope_meant, binding_meant}
 use Rattle.run_state.specs.Variables.{IsMissing, IsLatest}
 use Rattle.run_state.proofs.Scopes.{reversed_parts}
 
@@ -74,6 +74,9 @@ searched_found x es rest front e i p h n k = record { front = front; back = p.ba
 
 pub turned_more : (es : List Entry) (e : Entry) → scope_meant (es ++ e ∷ []) ≡ entry_meant e ∷ scope_meant es
 turned_more es e = turned_around es [] e
+
+pub bindings_more : (es : List Entry) (e : Entry) → map binding_meant (es ++ e ∷ []) ≡ map binding_meant es ++ binding_meant e ∷ []
+bindings_more es e = map-append binding_meant es (e ∷ [])
 
 -- ---- the latest alias of a name, of a scope and of what stands before its last entry
 

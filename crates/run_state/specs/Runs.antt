@@ -4,7 +4,7 @@ use Rattle.rhai_base.specs.Value.{Value}
 use Rattle.rhai_base.specs.declared.dynamic.Dynamic.{Dynamic}
 use Rattle.rhai_base.specs.Reading.{value_of}
 use Rattle.theory_meaning.specs.Act as act
-use Rattle.theory_meaning.specs.Act.{ScopeEntry, Exit, Returns, Breaks, Continues, Throws, Ending, Gives, Leaves, Halt, IsStuck, OutOfTurns, Outcome, Ended, Halted, At, Store, World, Act, Acts, Env, and_then, leave, run, run_all}
+use Rattle.theory_meaning.specs.Act.{Exit, Returns, Breaks, Continues, Throws, Ending, Gives, Leaves, Halt, IsStuck, OutOfTurns, Outcome, Ended, Halted, At, Store, World, Act, Acts, Env, and_then, leave, run, run_all}
 use Rattle.theory_meaning.specs.Core.{Function}
 use Rattle.theory_meaning.specs.Run.{env_at}
 use Rattle.run_state.specs.declared.state.Interrupt.{Interrupt}
@@ -24,21 +24,21 @@ setting_of w fs = record { world = w; functions = fs }
 abbrev pub env : Setting → ℕ → Env
 env here d = env_at true here.world here.functions d
 
--- What is left to do: an act, a list of acts, nothing; something that goes on by how it ends; something whose names go
--- when it ends.
+-- What is left to do: an act, a list of acts, nothing; something that goes on by how it ends; a list inside, which began
+-- in this store.
 pub data Task : Type 0 where
   Acting : Act → Task
   Listing : Acts → Task
   Over : Outcome → Task
   Bound : Task → (Ending → Act) → Task
-  Within : List ScopeEntry → Task → Task
+  Within : Store → Task → Task
 
 abbrev pub run_of : Setting → Task → ℕ → Store → ℕ → act.Result
 run_of here (Acting a) d st t = run here.world (env here d) a st t
 run_of here (Listing p) d st t = run_all here.world (env here d) p st t
 run_of here (Over o) d st t = At o st t
 run_of here (Bound f next) d st t = and_then (run_of here f d st t) (λ e. run here.world (env here d) (next e))
-run_of here (Within es f) d st t = leave es (run_of here f d st t)
+run_of here (Within old f) d st t = leave old (run_of here f d st t)
 
 -- From the second state on so much is left to do as was from the first on, at each depth that the turns cannot use up.
 pub record Goes (here : Setting) (f : Task) (s : State) (g : Task) (s' : State) : Type 0 where

@@ -53,6 +53,16 @@ impl EntryKind {
         }
     }
 
+    /// Whether functions see it as `global::x` where the script's own list declares it.
+    pub fn is_published(self) -> bool
+        ensures { result ≡ act.is_published (kind_meant self) }
+    {
+        match self {
+            EntryKind::Constant => true,
+            EntryKind::Variable | EntryKind::Alias | EntryKind::Export => false,
+        }
+    }
+
     /// Whether it is an alias.
     fn is_alias(self) -> bool
         ensures { result ≡ act.is_alias (kind_meant self) }

@@ -16,6 +16,6 @@ pub use exits::{
     round_ended, run_end,
 };
 pub use pointers::{curried, pointed, pointed_with, pointer_to};
-pub use state::{Interrupt, State};
+pub use state::{Interrupt, Mark, State};
 pub use values::{constant, joined_text, some_value, truth};
 pub use words::{Word, is_shared, is_shared_by};

@@ -2,12 +2,15 @@
 
 #![tactic(auto, using(crate::proofs::Declared::declaring))]
 
-ghost use Rattle.std.specs.Prelude.{◌≡◌, map, IfOk, OnOk, ◌∷◌, None, [], option_map};
+ghost use Rattle.std.specs.Prelude.{◌≡◌, ◌&&◌, map, IfOk, OnOk, ◌∷◌, [], option_map};
+ghost use Rattle.theory_meaning.specs.Act as act;
+ghost use Rattle.theory_meaning.specs.Act.{declared, inside, published};
 ghost use Rattle.theory_meaning.specs.Desugar.{name_kind};
-ghost use Rattle.theory_meaning.specs.Run.{bind, seen};
+ghost use Rattle.theory_meaning.specs.Run.{bind, called_from, seen};
+ghost use Rattle.theory_meaning.specs.Run.{started as at_start};
 ghost use Rattle.rhai_base.specs.Reading.{value_of};
 ghost use Rattle.run_state.specs.declared.state.Interrupt.TheVariants.{NoMemory};
-ghost use Rattle.run_state.specs.State.{aliased_in, declared_in, store_of, with_entry, GoesOn, TakesTurn};
+ghost use Rattle.run_state.specs.State.{aliased_in, declared_in, outside, store_of, GoesOn, Marks, TakesTurn};
 ghost use Rattle.run_host.specs.Entries.{start_scope};
 ghost use Rattle.run_host.specs.Entries.{entry_meant as start_entry};
 ghost use Rattle.run_state.specs.Entries.{kind_meant, entry_meant, scope_meant};
@@ -60,11 +63,15 @@ impl<T: Drop> From<AllocFailed<T>> for Interrupt {
     }
 }
 
-/// The entries of the scope, `this`, the calls so far, and the turns left.
+/// The entries of the scope, the constants that functions see, `this`, the calls so far, and the turns left.
 #[derive(Drop)]
 pub struct State {
     /// The entries of the scope, latest last.
     pub scope: Vec<Entry>,
+    /// The constants that functions see as `global::x`, latest last: those that the script's own list has declared.
+    pub globals: Vec<Entry>,
+    /// Whether the script's own list is run, and no list inside it and no function's body.
+    pub is_own: bool,
     /// The value of `this`, where it is bound.
     pub this: Option<Dynamic>,
     /// The calls to the host, in order.
@@ -73,15 +80,25 @@ pub struct State {
     pub turns: u64,
 }
 
+/// Where a list inside another one began: how many entries there were, and whether the list around it is the
+/// script's own.
+#[derive(Clone, Copy)]
+pub struct Mark {
+    names: usize,
+    is_own: bool,
+}
+
 impl State {
     /// Where a run starts.
     pub fn new(alloc: Global, scope: &Scope, turns: u64) -> Result<State, AllocError>
         ensures store { IfOk result (λ s.
-            store_of s ≡ record { scope = start_scope scope.now; this = None; calls = [] }) }
+            store_of s ≡ at_start (start_scope scope.now)) }
         ensures turns { IfOk result (λ s. s.turns ≡ turns) }
     {
         Ok(State {
             scope: entries(alloc, scope)?,
+            globals: Vec::new(alloc),
+            is_own: true,
             this: None,
             calls: Seq::new(alloc),
             turns,
@@ -110,7 +127,30 @@ impl State {
         Ok(true)
     }
 
-    /// Adds an entry.
+    /// Begins a list inside another one.
+    pub fn begin_list(&mut self) -> Mark
+        ensures store { store_of self.new ≡ inside (store_of self.old) }
+        ensures turns { self.new.turns ≡ self.old.turns }
+        ensures mark { Marks result (store_of self.old) }
+    {
+        let mark = Mark {
+            names: self.scope.len(),
+            is_own: self.is_own,
+        };
+        self.is_own = false;
+        mark
+    }
+
+    /// Ends a list that began there: its entries go.
+    pub fn end_list(&mut self, mark: Mark)
+        ensures store { (old : _) → Marks mark old → store_of self.new ≡ outside old (store_of self.old) }
+        ensures turns { self.new.turns ≡ self.old.turns }
+    {
+        self.scope.truncate(mark.names);
+        self.is_own = mark.is_own;
+    }
+
+    /// Adds an entry. Functions see a constant of the script's own list.
     pub fn declare(
         &mut self,
         name: &ImmutableString,
@@ -118,14 +158,40 @@ impl State {
         value: Dynamic,
     ) -> Result<(), AllocError>
         ensures store { OnOk result
-            (store_of self.new ≡ with_entry name.now (kind_meant kind) (value_of value) (store_of self.old)) }
+            (store_of self.new ≡ declared name.now (kind_meant kind) (value_of value) (store_of self.old)) }
         ensures turns { OnOk result (self.new.turns ≡ self.old.turns) }
     {
+        self.publish(name, kind, &value)?;
         self.scope.push(Entry {
             name: name.clone()?,
             kind,
             value,
         })?;
+        Ok(())
+    }
+
+    /// Adds a constant of the script's own list to those that functions see.
+    fn publish(
+        &mut self,
+        name: &ImmutableString,
+        kind: EntryKind,
+        value: &Dynamic,
+    ) -> Result<(), AllocError>
+        ensures store { OnOk result
+            (store_of self.new
+            ≡ record (store_of self.old) {
+              globals = published (self.old.is_own && act.is_published (kind_meant kind)) name.now
+                  (value_of value.now) (store_of self.old).globals;
+            }) }
+        ensures turns { OnOk result (self.new.turns ≡ self.old.turns) }
+    {
+        if self.is_own && kind.is_published() {
+            self.globals.push(Entry {
+                name: name.clone()?,
+                kind,
+                value: value.clone()?,
+            })?;
+        }
         Ok(())
     }
 
@@ -169,7 +235,7 @@ impl State {
 
 impl State {
     /// Where a function's body starts: with its parameters over a copy of the entries around where the call captures
-    /// them, and with the calls so far, which go along.
+    /// them, and with the constants that functions see and the calls so far, which go along.
     #[inline(never)]
     pub fn enter(
         &mut self,
@@ -181,14 +247,13 @@ impl State {
     ) -> Result<State, AllocError>
         ensures store { IfOk result (λ s.
             store_of s
-            ≡ record {
-              scope = bind params.now (map value_of args) (seen captures (store_of self.old).scope);
-              this = option_map value_of this;
-              calls = (store_of self.old).calls;
-            }) }
+            ≡ called_from (store_of self.old)
+            (bind params.now (map value_of args) (seen captures (store_of self.old).scope))
+            (option_map value_of this)) }
         ensures turns { IfOk result (λ s. s.turns ≡ self.old.turns) }
         ensures scope { OnOk result (self.new.scope ≡ self.old.scope) }
         ensures around { OnOk result (self.new.this ≡ self.old.this) }
+        ensures own { OnOk result (self.new.is_own ≡ self.old.is_own) }
         ensures turns_stay { OnOk result (self.new.turns ≡ self.old.turns) }
         ensures calls_go { OnOk result (self.new.calls ≡ []) }
     {
@@ -198,28 +263,36 @@ impl State {
             Vec::new(alloc)
         };
         let scope = bound(around, params, args)?;
+        let globals = std::mem::replace(&mut self.globals, Vec::new(alloc));
         let calls = std::mem::replace(&mut self.calls, Seq::new(alloc));
         Ok(State {
             scope,
+            globals,
+            is_own: false,
             this,
             calls,
             turns: self.turns,
         })
     }
 
-    /// Goes on after a function's body, with its calls and turns. The body's last `this`.
+    /// Goes on after a function's body, with the constants that functions see, its calls and turns. The body's last
+    /// `this`.
     #[inline(never)]
     pub fn resume(&mut self, body: State) -> Option<Dynamic>
-        ensures store { store_of self.new ≡ record (store_of self.old) { calls = (store_of body).calls } }
+        ensures store { store_of self.new
+            ≡ record (store_of self.old) { globals = (store_of body).globals; calls = (store_of body).calls } }
         ensures turns { self.new.turns ≡ body.turns }
         ensures this { result ≡ body.this }
     {
         let State {
             scope: _,
+            globals,
+            is_own: _,
             this,
             calls,
             turns,
         } = body;
+        self.globals = globals;
         self.calls = calls;
         self.turns = turns;
         this

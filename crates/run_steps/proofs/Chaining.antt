@@ -11,6 +11,7 @@ use Rattle.theory_meaning.specs.Chains.{ask_for, index, property, set_by_host, s
 use Rattle.theory_meaning.specs.Places as places
 use Rattle.theory_meaning.specs.Places.{AtEntry, Current, along, inside, part}
 use Rattle.theory_meaning.specs.Elements.{at_index}
+use Rattle.theory_meaning.specs.Engine.{constant_named}
 use Rattle.theory_meaning.specs.Tree.{PropertyNames}
 use Rattle.run_places.specs.Reading.{or_unit}
 use Rattle.run_state.specs.declared.state.State.{State}
@@ -68,12 +69,13 @@ module _ {T : Type 0} (here : Setting) (s s2 : State) (r : Result T Interrupt) (
 
 -- ---- what keeps the names
 
-abbrev pub Names : act.Result → Store → Type 0
-Names (At o st' t) st = (st'.scope ≡ st.scope) × (st'.this ≡ st.this)
-
--- a run after which there are the same names
+-- the same names
 abbrev pub KeepsNames : Store → Store → Type 0
-KeepsNames st st' = (st'.scope ≡ st.scope) × (st'.this ≡ st.this)
+KeepsNames st st' = (st'.scope ≡ st.scope) × (st'.this ≡ st.this) × (st'.globals ≡ st.globals)
+
+-- after a run
+abbrev pub Names : act.Result → Store → Type 0
+Names (At o st' t) st = KeepsNames st st'
 
 pub kept_by : (here : Setting) (a : Act) (s s' : State) (o : act.Outcome) → ((d : ℕ) → Names (run here.world (env here d) a (store_of s) s.turns) (store_of s)) → Goes here (Acting a) s (Over o) s' → KeepsNames (store_of s) (store_of s')
 kept_by here a s s' o k q = subst (λ r. Names r (store_of s)) (q.runs s.turns (omega arith)) (k s.turns)
@@ -84,6 +86,7 @@ answer_keeps here d t (act.AnswersThrow v) st st' k = k
 
 same_root : (here : Setting) (r : act.Root) (st st' : Store) → KeepsNames st st' → root_value here st' r ≡ root_value here st r
 same_root here (act.OfName x) st st' k = ap (λ es. option_map (λ (y : act.ScopeEntry). y.value) (act.found here.world.engine.constants es x)) k.0
+same_root here (act.OfGlobal x) st st' k = ap (λ bs. constant_named bs x) k.2
 same_root here act.OfThis st st' k = k.1
 
 pub same_current : (here : Setting) (c : declared.Current) (st st' : Store) → KeepsNames st st' → current_in here st' c ≡ current_in here st c
@@ -92,7 +95,7 @@ same_current here (kind.Loose v) st st' k = refl
 
 -- the host's answer to a method
 pub method_keeps : (here : Setting) (f : Text) (v : Value) (vs : List Value) (s s' : State) (a : Value) → Goes here (Acting (ask_method f v vs (λ x y. give x))) s (given a) s' → KeepsNames (store_of s) (store_of s')
-method_keeps here f v vs s s' a q = kept_by here _ s s' _ (λ d. answer_keeps here d s.turns (here.world.host.answer (store_of s).calls (record { name = f; receiver = Some v; arguments = vs })) (store_of s) (record (store_of s) { calls = (store_of s).calls ++ (record { name = f; receiver = Some v; arguments = vs }) ∷ [] }) (refl, refl)) q
+method_keeps here f v vs s s' a q = kept_by here _ s s' _ (λ d. answer_keeps here d s.turns (here.world.host.answer (store_of s).calls (record { name = f; receiver = Some v; arguments = vs })) (store_of s) (record (store_of s) { calls = (store_of s).calls ++ (record { name = f; receiver = Some v; arguments = vs }) ∷ [] }) (refl, refl, refl)) q
 
 -- ---- writes
 

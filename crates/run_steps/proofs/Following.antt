@@ -31,6 +31,7 @@ use Rattle.run_state.proofs.Goes.{gives, goes_as, goes_then, value_goes}
 use Rattle.rhai_ast.specs.declared.walker.node.ChainType.TheVariants as chain_type
 use Rattle.run_steps.specs.Direct.{Comes, ComesFrom, IsIndex, StandsThere, StepsBy, StepsTo}
 use Rattle.run_steps.proofs.ChainSteps.{first_step, head_is, read_on, step_here, steps_are}
+use Rattle.run_steps.proofs.Modules.{named_reads}
 
 -- what has parts is no unit, so no `?` ends a chain there
 not_unit : (u : Value) (k : places.PlaceKey) (w : Value) → inside u k ≡ Some w → is_unit u ≡ false
@@ -106,7 +107,7 @@ module _ (here : Setting) (s : State) where
   integer_index e n is = λ loop. goes_then here (goes_as here _ _ s (ap (λ t. Acting (meaning.act here.world (core_expr loop t))) is)) (gives here (IntV n) (IntV n) s refl)
 
   root_reads : (e : tree.Expr) (r : act.Root) → root_of e ≡ Some r → (loop : Bool) → meaning.act here.world (core_expr loop e) ≡ Read r
-  root_reads (tree.Variable [] x) r h loop = ap Read (let z : Some (act.OfName x) ≡ Some r = h in cc)
+  root_reads (tree.Variable ns x) r h loop = named_reads here.world ns x r h
   root_reads tree.ThisPtr r h loop = ap Read (let z : Some act.OfThis ≡ Some r = h in cc)
   root_reads _ r h loop = absurd (let z : None ≡ Some r = h in cc)
 

@@ -6,6 +6,7 @@ pub mod Chaining
 pub mod Following
 pub mod FollowingSides
 pub mod Forms
+pub mod Globals
 pub mod LeftSides
 pub mod Modules
 pub mod NamedModules

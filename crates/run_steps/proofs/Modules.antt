@@ -1,19 +1,21 @@
 -- Names in modules of the host, and modules by their paths.
-use Rattle.std.proofs.Common.{◌≡◌, false, List, [], ◌∷◌, Some, None, refl, ap}
+use Rattle.std.proofs.Common.{◌≡◌, Bool, true, false, cond, List, [], ◌∷◌, Option, Some, None, Result, refl, sym, ap}
 use Rattle.rhai_base.specs.declared.dynamic.Dynamic.{Dynamic}
 use Rattle.rhai_base.specs.Reading.{value_of, DynamicCase, str_case, dynamic_cases}
 use Rattle.rhai_base.specs.Value.{Text, Value, TextV}
-use Rattle.theory_meaning.specs.Act.{World, Unbound, UnknownModule, WrongKind, Fail}
+use Rattle.theory_meaning.specs.Act.{World, Root, OfName, OfGlobal, Unbound, UnknownModule, WrongKind, Fail, Read}
 use Rattle.theory_meaning.specs.ActForms.{of_constant}
-use Rattle.theory_meaning.specs.Desugar.{variable}
+use Rattle.theory_meaning.specs.Desugar.{is_global, name_root, variable}
+use Rattle.theory_meaning.specs.Desugar.{in_module as in_some_module}
 use Rattle.theory_meaning.specs.Meaning.{act, module_at, module_known}
-use Rattle.theory_meaning.specs.Shape.{is_none}
 use Rattle.run_host.specs.declared.report.Stuck.TheVariants as why
+use Rattle.run_state.specs.declared.state.Interrupt.{Interrupt}
 use Rattle.run_state.specs.declared.state.Interrupt.TheVariants.{Stuck}
 use Rattle.run_state.specs.declared.state.State.{State}
-use Rattle.run_state.specs.Runs.{Setting, Acting, Goes, Stops, given}
+use Rattle.run_state.specs.Evaluating.{RunsCore}
+use Rattle.run_state.specs.Runs.{Setting, Acting, Goes, Runs, Stops, given}
 use Rattle.run_state.specs.State.{store_of}
-use Rattle.run_state.proofs.Goes.{gives, goes_as, goes_then, stuck_here}
+use Rattle.run_state.proofs.Goes.{gives, goes_as, goes_then, leads_then, stuck_here}
 use Rattle.rhai_base.proofs.OtherKinds.{NoStr}
 use Rattle.run_steps.specs.Variables.{in_module, qualified_in}
 use Rattle.run_steps.proofs.NamedModules.{module_goes}
@@ -23,12 +25,28 @@ no_path : (w : World) {v : Dynamic} {u : Value} → DynamicCase v u → NoStr v 
 no_path w (str_case t) h = absurd (h t refl)
 no_path w _ h = refl
 
-variable_is : (w : World) (ns : List Text) (x : Text) → is_none ns ≡ false → act w (variable ns x) ≡ in_module ns x (λ y. of_constant (w.host.module_value y))
+variable_is : (w : World) (ns : List Text) (x : Text) → None ≡ name_root ns x → act w (variable ns x) ≡ in_module ns x (λ y. of_constant (w.host.module_value y))
 variable_is w [] x h = cc
-variable_is w (n ∷ ns) x h = refl
+variable_is w (n ∷ []) x h = by (is_global n) h where
+  by : (b : Bool) → None ≡ cond b (Some (OfGlobal x)) None → act w (in_some_module b n x) ≡ in_module (n ∷ []) x (λ y. of_constant (w.host.module_value y))
+  by true q = cc
+  by false q = refl
+variable_is w (n ∷ m ∷ ns) x h = refl
+
+-- a name with its modules' that has a value of its own
+pub named_reads : (w : World) (ns : List Text) (x : Text) (r : Root) → name_root ns x ≡ Some r → act w (variable ns x) ≡ Read r
+named_reads w [] x r h = ap Read (let z : Some (OfName x) ≡ Some r = h in cc)
+named_reads w (n ∷ []) x r h = by (is_global n) h where
+  by : (b : Bool) → cond b (Some (OfGlobal x)) None ≡ Some r → act w (in_some_module b n x) ≡ Read r
+  by true q = ap Read (let z : Some (OfGlobal x) ≡ Some r = q in cc)
+  by false q = cc
+named_reads w (n ∷ m ∷ ns) x r h = cc
 
 module _ (here : Setting) (s : State) where
-  module _ (ns : List Text) (x : Text) (h : is_none ns ≡ false) where
+  pub named_runs : (ns : List Text) (x : Text) (r : Root) (o : Result Dynamic Interrupt) (s1 : State) → Some r ≡ name_root ns x → Runs here (Acting (Read r)) s o s1 → RunsCore here (variable ns x) s o s1
+  named_runs ns x r o s1 h q = leads_then here s1 o (λ v. given (value_of v)) (goes_as here _ _ s (ap Acting (named_reads here.world ns x r (sym h)))) q
+
+  module _ (ns : List Text) (x : Text) (h : None ≡ name_root ns x) where
     abbrev whole_name : Text
     whole_name = qualified_in (store_of s).scope ns x
 

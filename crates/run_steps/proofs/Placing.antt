@@ -6,7 +6,7 @@ use Rattle.rhai_base.specs.declared.dynamic.Dynamic.{Dynamic}
 use Rattle.rhai_base.specs.Reading.{value_of}
 use Rattle.rhai_base.specs.Value.{Text, Value, UnitV}
 use Rattle.theory_meaning.specs.Act as act
-use Rattle.theory_meaning.specs.Act.{IsConstant, ScopeEntry, IsStuck, Unbound, NoPlace, Gives, Ended, Halted, At, Store, Act, OfName, OfThis, Read, found, read, read_this, read_root}
+use Rattle.theory_meaning.specs.Act.{IsConstant, ScopeEntry, IsStuck, Unbound, NoPlace, Gives, Ended, Halted, At, Store, Act, OfName, OfGlobal, OfThis, Read, found, read, read_global, read_this, read_root}
 use Rattle.theory_meaning.specs.ActForms.{give}
 use Rattle.theory_meaning.specs.Engine.{constant_named}
 use Rattle.theory_meaning.specs.Elements.{at_index}
@@ -119,10 +119,12 @@ current_missing here st p f h = sym (ap or_unit h.0)
 module _ (here : Setting) where
   root_read : (r : act.Root) (v : Value) (st : Store) (t : ℕ) → root_value here st r ≡ Some v → read_root here.world r st t ≡ At (Ended (Gives v)) st t
   root_read (OfName x) v st t h = read_found (found here.world.engine.constants st.scope x) v st t h
+  root_read (OfGlobal x) v st t h = ap (λ o. read_global o st t) h
   root_read OfThis v st t h = ap (λ o. read_this o st t) h
 
   root_unread : (r : act.Root) (st : Store) (t : ℕ) → root_value here st r ≡ None → read_root here.world r st t ≡ At (Halted (IsStuck (root_stuck r))) st t
   root_unread (OfName x) st t h = read_missing (found here.world.engine.constants st.scope x) st t h
+  root_unread (OfGlobal x) st t h = ap (λ o. read_global o st t) h
   root_unread OfThis st t h = ap (λ o. read_this o st t) h
 
   pub read_goes : (s : State) (r : act.Root) (v : Value) → root_value here (store_of s) r ≡ Some v → Goes here (Acting (Read r)) s (given v) s

@@ -21,7 +21,7 @@ module _ (here : Setting) where
   Quiet a = (d : ℕ) (old st : Store) (t : ℕ) → KeepsNames old st → Names (run here.world (env here d) a st t) old
 
   pub quiet_stays : (a : Act) (s s' : State) (o : act.Outcome) → Quiet a → Goes here (Acting a) s (Over o) s' → KeepsNames (store_of s) (store_of s')
-  quiet_stays a s s' o k q = kept_by here a s s' o (λ d. k d (store_of s) (store_of s) s.turns (refl, refl)) q
+  quiet_stays a s s' o k q = kept_by here a s s' o (λ d. k d (store_of s) (store_of s) s.turns (refl, refl, refl)) q
 
   pub quiet_give : (v : Value) → Quiet (give v)
   quiet_give v d old st t k = k

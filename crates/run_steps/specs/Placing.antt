@@ -5,9 +5,10 @@ use Rattle.rhai_base.specs.declared.dynamic.Dynamic.{Dynamic}
 use Rattle.rhai_base.specs.Reading.{value_of}
 use Rattle.rhai_base.specs.Value.{Value}
 use Rattle.theory_meaning.specs.Act as act
-use Rattle.theory_meaning.specs.Act.{Store, Act, Read, OfName, OfThis, Unbound, UnboundThis, NoPlace, found}
+use Rattle.theory_meaning.specs.Act.{Store, Act, Read, OfName, OfGlobal, OfThis, Unbound, UnboundThis, NoPlace, found}
 use Rattle.theory_meaning.specs.ActForms.{◌>>=◌}
 use Rattle.theory_meaning.specs.Elements.{at_index}
+use Rattle.theory_meaning.specs.Engine.{constant_named}
 use Rattle.theory_meaning.specs.Places as places
 use Rattle.theory_meaning.specs.Places.{along, at_root, without_place}
 use Rattle.run_places.specs.declared.standing.Part.{Part}
@@ -26,13 +27,15 @@ use Rattle.run_steps.specs.Variables.{root_meant}
 abbrev pub place_meant : Place → places.Place
 place_meant p = record { root = root_meant p.root; keys = map key_meant p.keys }
 
--- the value of a name or of `this`, by what is in scope and in the record
+-- the value of a name, of a constant of the script's own list or of `this`, by what is in scope and in the record
 abbrev pub root_value : Setting → Store → act.Root → Option Value
 root_value here st (OfName x) = option_map (λ e. e.value) (found here.world.engine.constants st.scope x)
+root_value here st (OfGlobal x) = constant_named st.globals x
 root_value here st OfThis = st.this
 
 abbrev pub root_stuck : act.Root → act.Stuck
 root_stuck (OfName x) = Unbound
+root_stuck (OfGlobal x) = Unbound
 root_stuck OfThis = UnboundThis
 
 abbrev pub value_at : Setting → Store → places.Place → Option Value

@@ -1,4 +1,4 @@
--- What a name or `this` stands for.
+-- What a name, a constant of the script's own list or `this` stands for.
 use Rattle.std.specs.Prelude.{List, [], ◌∷◌}
 use Rattle.rhai_base.specs.Value.{Text}
 use Rattle.theory_meaning.specs.Act as act
@@ -6,10 +6,11 @@ use Rattle.theory_meaning.specs.Act.{Act, Resolve, resolved}
 use Rattle.theory_meaning.specs.Calls.{within}
 use Rattle.theory_meaning.specs.Desugar.{qualified}
 use Rattle.run_steps.specs.declared.nodes.variables.Root.{Root}
-use Rattle.run_steps.specs.declared.nodes.variables.Root.TheVariants.{Name, This}
+use Rattle.run_steps.specs.declared.nodes.variables.Root.TheVariants.{Name, Global, This}
 
 abbrev pub root_meant : Root → act.Root
 root_meant (Name x) = act.OfName x.now
+root_meant (Global x) = act.OfGlobal x.now
 root_meant This = act.OfThis
 
 -- the whole name of what is named so, in a scope with these aliases

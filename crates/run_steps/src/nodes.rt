@@ -15,4 +15,4 @@ pub use operators::{
     asks_assigning, assigning_name, assigning_operator, builtin, fault_text, is_callable,
     operator_called, two_operands,
 };
-pub use variables::{Root, module_at, position, qualified, root_of};
+pub use variables::{Root, latest_constant, module_at, named_root, position, qualified, root_of};

@@ -10,3 +10,6 @@ pub mod Steps
 pub mod ExprSteps
 pub mod PairSteps
 pub mod ScriptSteps
+pub mod PartSteps
+pub mod StatementSteps
+pub mod FunctionSteps

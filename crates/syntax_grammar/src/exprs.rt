@@ -84,7 +84,13 @@ fn found(memory: &Memory, text: &[u8], at: usize, expr: &Expr) -> Option<Found>
 
 /// An expression at a level, all of its parentheses closed.
 #[cycle(grammar)]
-fn whole(memory: &Memory, text: &[u8], at: usize, expr: &Expr, least: u32) -> Option<usize>
+pub(crate) fn whole(
+    memory: &Memory,
+    text: &[u8],
+    at: usize,
+    expr: &Expr,
+    least: u32,
+) -> Option<usize>
     ensures { IfSome result (λ next. Reads least (drop at text.now) (expr_of expr.now) (drop next text.now)) }
 {
     let found = begun(memory, text, at, expr)?;

@@ -1,4 +1,4 @@
-//! Whether a text spells a tree: one walk over the tree, which goes past the words of the text.
+//! Whether a text spells an expression or a script: one walk over the tree, which goes past the words of the text.
 #![tactic(auto)]
 
 mod atoms;
@@ -9,6 +9,7 @@ mod decimals;
 mod ends;
 mod exprs;
 mod floats;
+mod functions;
 mod letters;
 mod lists;
 mod marks;
@@ -16,10 +17,13 @@ mod memory;
 mod names;
 mod numbers;
 mod parens;
+mod parts;
 mod paths;
 mod quoted;
 mod scripts;
+mod simple;
+mod statements;
 mod words;
 
 pub use exprs::is_spelled;
-pub use scripts::{covers, is_one_expression};
+pub use scripts::{covers, covers_script, is_one_expression, is_one_script, is_script_spelled};

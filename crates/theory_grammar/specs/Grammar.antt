@@ -1,6 +1,6 @@
 -- The grammar of rhai's own syntax: which texts spell a tree. `Reads l ws e rest`: an expression that may stand where one
 -- of the level l is wanted is read at the head of the text ws, and rest is left behind it.
-use Rattle.std.specs.Prelude.{◌≡◌, ◌≤◌, ◌<◌, ◌+◌, ◌-◌, ℕ, ℤ, pos, neg_ℤ, nat_lt, zero, suc, Bool, true, false, not, ◌||◌, IsTrue, List, [], ◌∷◌, ◌++◌, Option, Some, None, codes, if◌then◌else◌}
+use Rattle.std.specs.Prelude.{◌≡◌, ◌≤◌, ◌<◌, ◌+◌, ◌-◌, ℕ, ℤ, pos, neg_ℤ, nat_lt, zero, Bool, true, false, ◌||◌, List, [], ◌∷◌, ◌++◌, Option, Some, None, codes, if◌then◌else◌}
 use Rattle.base_tokens.specs.declared.token.Token.{Token}
 use Rattle.base_tokens.specs.declared.token.Token.TheVariants as token
 use Rattle.base_tokens.specs.Symbols.{token_text}
@@ -8,7 +8,7 @@ use Rattle.base_tokens.specs.Names.{is_among}
 use Rattle.base_text.specs.Text.{Text}
 use Rattle.rhai_base.specs.Builtin.{operator_of}
 use Rattle.rhai_base.specs.Operators.{Operator}
-use Rattle.theory_meaning.specs.Tree.{Callee, CallToken, NoToken, OfOperator, OfOther, ChainFlags, PropertyNames, Expr, BoolConstant, IntegerConstant, FloatConstant, StringConstant, UnitConstant, ArrayOf, MapOf, Variable, ThisPtr, Property, MethodCall, BlockExpr, FnCall, Dot, Index, And, Or, Coalesce, Exprs, no_exprs, expr, Pairs, no_pairs, pair, Stmt, If, Assignment, ExprStmt, FnCallStmt, Block, Stmts, no_stmts, stmt}
+use Rattle.theory_meaning.specs.Tree.{Callee, CallToken, NoToken, OfOperator, OfOther, ChainFlags, Expr, BoolConstant, IntegerConstant, FloatConstant, StringConstant, UnitConstant, ArrayOf, MapOf, Variable, ThisPtr, Property, MethodCall, FnCall, Dot, Index, And, Or, Coalesce, Exprs, no_exprs, expr, Pairs, no_pairs, pair}
 use Rattle.theory_grammar.specs.Words.{Blanks, Decimal, Letters, Next, Number, PastGreatest, Quoted, Sign, behind_line, is_name, own_functions, own_methods}
 
 -- ---- levels

@@ -1,3 +1,4 @@
 pub mod Words
 pub mod Grammar
+pub mod Statements
 pub mod Covered

@@ -1,11 +1,11 @@
 -- The words of rhai's own syntax. `Next ws w rest`: behind blanks and comments the text ws goes on with the word w, and
 -- rest is left behind it. Texts are bytes.
-use Rattle.std.specs.Prelude.{◌≡◌, ◌<◌, ◌+◌, ◌-◌, ◌*◌, ℕ, ℤ, pos, ◌-ℤ◌, zero, suc, Bool, true, false, not, ◌&&◌, ◌||◌, IsTrue, List, [], ◌∷◌, ◌++◌, length, drop, codes, Option, Some, None, ◌==◌, nat_lt, to_bits, if◌then◌else◌}
+use Rattle.std.specs.Prelude.{◌≡◌, ◌<◌, ◌+◌, ◌*◌, ℕ, ℤ, pos, ◌-ℤ◌, zero, suc, Bool, true, false, not, ◌&&◌, ◌||◌, IsTrue, List, [], ◌∷◌, ◌++◌, drop, codes, Option, Some, None, ◌==◌, nat_lt, to_bits, if◌then◌else◌}
 use Rattle.std.specs.Char.{IsScalar, digit_value, encode_utf8}
 use Rattle.std.specs.Float.{Float, binary64}
 use Rattle.fast_float.specs.Parse.{parse_float}
 use Rattle.base_text.specs.Text.{Text, same_text}
-use Rattle.base_tokens.specs.Names.{after, is_among, is_identifier, is_letter, is_word, within}
+use Rattle.base_tokens.specs.Names.{is_among, is_identifier, is_letter, is_word, within}
 
 pub data Word : Type 0 where
   -- a name, or a word of the language

@@ -2,11 +2,11 @@
 use Rattle.std.proofs.Common.{◌≡◌, ℕ, zero, suc, Bool, true, List, [], ◌∷◌, ◌++◌, map, Option, Some, None, refl, ap, subst, ◌∙◌}
 use Rattle.rhai_base.specs.Value.{Text, Value}
 use Rattle.theory_meaning.specs.Engine.{Engine}
-use Rattle.theory_meaning.specs.Act.{ScopeEntry, HostCall, Host, Key, Store, World, Again, Ending, Gives, Leaves, Ended, Halted, Result, At, OfName, OfThis, ScriptCall, Act, Stop, Fail, Then, Turn, Read, Write, Resolve, AskHost, Invoke, Loop, Scoped, Acts, Only, Do, Named, Finish, Env, and_then, with_turn, resolved, leave, call_then, returned, on_again, rounds, run, run_all}
+use Rattle.theory_meaning.specs.Act.{ScopeEntry, HostCall, Host, Key, Store, World, Again, Ending, Gives, Leaves, Ended, Halted, Result, At, OfName, OfGlobal, OfThis, ScriptCall, Act, Stop, Fail, Then, Turn, Read, Write, Resolve, AskHost, Invoke, Loop, Scoped, Acts, Only, Do, Named, Finish, Env, and_then, with_turn, resolved, inside, leave, call_then, returned, on_again, rounds, run, run_all}
 use Rattle.theory_meaning.specs.Agreeing.{SameAnswers, AgreeOn}
 use Rattle.theory_meaning.specs.Relations.{Begins, calls_of, store_of}
 use Rattle.theory_meaning.specs.Core.{Function, Script}
-use Rattle.theory_meaning.specs.Run.{EntryPoint, AtStatements, AtFunction, key_of, function_of, entered, body_acts, call_body, invoke_at, env_at, run_at, run_script, report_of}
+use Rattle.theory_meaning.specs.Run.{EntryPoint, AtStatements, AtFunction, key_of, function_of, entered, started, body_acts, call_body, invoke_at, env_at, run_at, run_script, report_of}
 use Rattle.theory_meaning.proofs.Depths.{adds_at}
 use Rattle.theory_meaning.proofs.SameActs.{same_body}
 use Rattle.theory_meaning.proofs.Relations.{Keeps}
@@ -36,8 +36,8 @@ module _ (h h' : Host) where
   same_turn zero s f f' k q = refl
   same_turn (suc t) s f f' k q = k t q
 
-  same_leave : (es : List ScopeEntry) (r r' : Result) → Same r r' → Same (leave es r) (leave es r')
-  same_leave es (At o s t) r' k q = ap (leave es) (k q)
+  same_leave : (old : Store) (r r' : Result) → Same r r' → Same (leave old r) (leave old r')
+  same_leave old (At o s t) r' k q = ap (leave old) (k q)
 
   same_returned : (r r' : Result) → Same r r' → Same (returned r) (returned r')
   same_returned (At o s t) r' k q = ap returned (k q)
@@ -55,7 +55,7 @@ module _ (h h' : Host) where
   -- two environments of the two hosts
   pub record SameEnv (env env' : Env) : Type 0 where
     pub rounds : env.rounds ≡ env'.rounds
-    pub invoke : (a : ScriptCall) (scope : List ScopeEntry) (calls : List HostCall) (t : ℕ) → Same (env.invoke a scope calls t) (env'.invoke a scope calls t)
+    pub invoke : (a : ScriptCall) (s : Store) (t : ℕ) → Same (env.invoke a s t) (env'.invoke a s t)
     pub adds : OnlyAdds env
 
   module _ (engine : Engine) (functions : List Key) where
@@ -73,18 +73,20 @@ module _ (h h' : Host) where
         same_run (Then a next) s t q = same_then (run w env a s t) _ _ _ (λ e s1 t1. (preserves w env g.adds (next e) s1 t1).calls) (same_run a s t) (λ e s1 t1. same_run (next e) s1 t1) q
         same_run (Turn a) s t q = same_turn t s _ _ (λ t1. same_run a s t1) q
         same_run (Read (OfName x)) s t q = refl
+        same_run (Read (OfGlobal x)) s t q = refl
         same_run (Read OfThis) s t q = refl
         same_run (Write must (OfName x) v) s t q = refl
+        same_run (Write must (OfGlobal x) v) s t q = refl
         same_run (Write must OfThis v) s t q = refl
         same_run (Resolve a next) s t q = same_run (next (resolved s.scope a)) s t q
         same_run (AskHost c next) s t q =
             let s1 = record s { calls = s.calls ++ c ∷ [] } in
             let b = (preserves w env g.adds (next (h.answer s.calls c)) s1 t).calls in
             same_run (next (h.answer s.calls c)) s1 t q ∙ ap (λ x. run w' env' (next x) s1 t) (q s.calls c b)
-        same_run (Invoke a next) s t q = same_call s (env.invoke a s.scope s.calls t) _ _ _ (λ v u s1 t1. (preserves w env g.adds (next v u) s1 t1).calls) (g.invoke a s.scope s.calls t) (λ v u s1 t1. same_run (next v u) s1 t1) q
+        same_run (Invoke a next) s t q = same_call s (env.invoke a s t) _ _ _ (λ v u s1 t1. (preserves w env g.adds (next v u) s1 t1).calls) (g.invoke a s t) (λ v u s1 t1. same_run (next v u) s1 t1) q
         same_run (Loop a) s t q =
             same_rounds env.rounds _ _ (λ s1 t1. preserves w env g.adds a s1 t1) (λ s1 t1. same_run a s1 t1) s t q ∙ ap (λ n. rounds n (run w' env' a) s t) g.rounds
-        same_run (Scoped p) s t q = same_leave s.scope (run_all w env p s t) _ (same_run_all p s t) q
+        same_run (Scoped p) s t q = same_leave s (run_all w env p (inside s) t) _ (same_run_all p (inside s) t) q
 
         pub same_run_all : (p : Acts) (s : Store) (t : ℕ) → Same (run_all w env p s t) (run_all w' env' p s t)
         same_run_all (Only a) s t = same_run a s t
@@ -96,27 +98,27 @@ module _ (h h' : Host) where
 
 module _ (engine : Engine) (h h' : Host) (modules : (x : Text) → h.module_value x ≡ h'.module_value x) (paths : (p : Text) → h.module_of p ≡ h'.module_of p) (texts : (v : Value) → h.text v ≡ h'.text v) (lends : Bool) where
   module _ (keys : List Key) where
-    same_body_call : (env env' : Env) → SameEnv h h' env env' → (o : Option Function) (a : ScriptCall) (scope : List ScopeEntry) (calls : List HostCall) (t : ℕ) → Same h h' (call_body lends (w h h' engine keys) env o a scope calls t) (call_body lends (w' h h' engine keys) env' o a scope calls t)
-    same_body_call env env' g None a scope calls t q = refl
-    same_body_call env env' g (Some f) a scope calls t q =
-        let s = entered lends f a scope calls in
+    same_body_call : (env env' : Env) → SameEnv h h' env env' → (o : Option Function) (a : ScriptCall) (s : Store) (t : ℕ) → Same h h' (call_body lends (w h h' engine keys) env o a s t) (call_body lends (w' h h' engine keys) env' o a s t)
+    same_body_call env env' g None a from t q = refl
+    same_body_call env env' g (Some f) a from t q =
+        let s = entered lends f a from in
         same_turn h h' t s _ (λ s1 t1. run_all (w' h h' engine keys) env' (body_acts (w h h' engine keys) f.body) s1 t1) (λ t1. same_run_all h h' engine keys env env' g (body_acts (w h h' engine keys) f.body) s t1) q
         ∙ ap (λ p. with_turn t s (λ s1 t1. run_all (w' h h' engine keys) env' p s1 t1)) (same_body engine keys h h' modules paths texts f.body)
 
-    same_invoke : (fs : List Function) (d : ℕ) (a : ScriptCall) (scope : List ScopeEntry) (calls : List HostCall) (t : ℕ) → Same h h' (invoke_at lends (w h h' engine keys) fs d a scope calls t) (invoke_at lends (w' h h' engine keys) fs d a scope calls t)
-    same_invoke fs zero a scope calls t q = refl
-    same_invoke fs (suc d) a scope calls t q =
-        same_body_call _ _ (record { rounds = refl; invoke = same_invoke fs d; adds = adds_at lends (w h h' engine keys) fs d }) (function_of fs a.function) a scope calls t q
+    same_invoke : (fs : List Function) (d : ℕ) (a : ScriptCall) (s : Store) (t : ℕ) → Same h h' (invoke_at lends (w h h' engine keys) fs d a s t) (invoke_at lends (w' h h' engine keys) fs d a s t)
+    same_invoke fs zero a s t q = refl
+    same_invoke fs (suc d) a s t q =
+        same_body_call _ _ (record { rounds = refl; invoke = same_invoke fs d; adds = adds_at lends (w h h' engine keys) fs d }) (function_of fs a.function) a s t q
 
     same_env : (fs : List Function) (d : ℕ) → SameEnv h h' (env_at lends (w h h' engine keys) fs d) (env_at lends (w' h h' engine keys) fs d)
     same_env fs d = record { rounds = refl; invoke = same_invoke fs d; adds = adds_at lends (w h h' engine keys) fs d }
 
     same_run_at : (p : Script) (e : EntryPoint) (scope : List ScopeEntry) (n : ℕ) → Same h h' (run_at lends (w h h' engine keys) p e scope n) (run_at lends (w' h h' engine keys) p e scope n)
     same_run_at p AtStatements scope n q =
-        let s : Store = record { scope = scope; this = None; calls = [] } in
+        let s : Store = started scope in
         same_run_all h h' engine keys _ _ (same_env p.functions n) (body_acts (w h h' engine keys) p.statements) s n q
         ∙ ap (λ q1. run_all (w' h h' engine keys) (env_at lends (w' h h' engine keys) p.functions n) q1 s n) (same_body engine keys h h' modules paths texts p.statements)
-    same_run_at p (AtFunction k this vs) scope n q = same_body_call _ _ (same_env p.functions n) (function_of p.functions k) _ [] [] n q
+    same_run_at p (AtFunction k this vs) scope n q = same_body_call _ _ (same_env p.functions n) (function_of p.functions k) _ (started []) n q
 
 -- the whole script, by the calls that its run reports
 pub same_script : (engine : Engine) (h h' : Host) (p : Script) (e : EntryPoint) (scope : List ScopeEntry) (n : ℕ) → AgreeOn h h' (calls_of (run_script engine h p e scope n)) → run_script engine h p e scope n ≡ run_script engine h' p e scope n

@@ -1,7 +1,7 @@
 -- A run that ends, with enough depth and turns.
 use Rattle.std.proofs.Common.{List, ◌≡◌, ℕ, zero, suc, ◌+◌, ◌≤◌, Option, refl, ap, ◌∙◌, subst, arith}
 use Rattle.rhai_base.specs.Value.{Value}
-use Rattle.theory_meaning.specs.Act.{ScopeEntry, HostCall, Store, Returns, Throws, Again, Ending, Gives, Leaves, Halt, IsStuck, Stuck, OutOfTurns, Outcome, Ended, Halted, Result, At, and_then, with_turn, leave, restore, call_then, returned_outcome, returned, on_again, rounds}
+use Rattle.theory_meaning.specs.Act.{HostCall, Store, Returns, Throws, Again, Ending, Gives, Leaves, Halt, IsStuck, Stuck, OutOfTurns, Outcome, Ended, Halted, Result, At, and_then, with_turn, leave, restore, call_then, returned_outcome, returned, on_again, rounds}
 use Rattle.theory_meaning.proofs.Relations.{Follows, same, short, IsOut}
 use Rattle.theory_meaning.proofs.Monotone.{Action}
 
@@ -159,18 +159,18 @@ met_turn p next s zero h = out
 met_turn p next s (suc t) h = met_move p _ s s (next s t) (λ o s' x. ends_turn p s o s' x) (h t)
 
 -- names are taken away at the end
-ends_leave : (p : Run) (s : Store) (es : List ScopeEntry) (o : Outcome) (s' : Store) → Ends p s o s' → Ends (λ d s t. leave es (p d s t)) s o (record s' { scope = restore es s'.scope })
-ends_leave p s es o s' x = record {
+ends_leave : (p : Run) (s old : Store) (o : Outcome) (s' : Store) → Ends p s o s' → Ends (λ d s t. leave old (p d s t)) s o (record s' { scope = restore old.scope s'.scope; is_own = old.is_own })
+ends_leave p s old o s' x = record {
   depth = x.depth;
   turns = x.turns;
   over = x.over;
-  by = λ d t n le lt. let a = x.by d t n le lt in (a.0, a.1, ap (leave es) a.2);
+  by = λ d t n le lt. let a = x.by d t n le lt in (a.0, a.1, ap (leave old) a.2);
 }
 
-pub met_leave : (p : Run) (s : Store) (es : List ScopeEntry) (r : Result) → Met p s r → Met (λ d s t. leave es (p d s t)) s (leave es r)
-met_leave p s es r out = out
-met_leave p s es r (ended {o = o} {s' = s'} x) = ended (ends_leave p s es o s' x)
-met_leave p s es r (stuck g s' x) = stuck g _ (ends_leave p s es _ s' x)
+pub met_leave : (p : Run) (s old : Store) (r : Result) → Met p s r → Met (λ d s t. leave old (p d s t)) s (leave old r)
+met_leave p s old r out = out
+met_leave p s old r (ended {o = o} {s' = s'} x) = ended (ends_leave p s old o s' x)
+met_leave p s old r (stuck g s' x) = stuck g _ (ends_leave p s old _ s' x)
 
 -- a return is its value
 over_returned : (o : Outcome) → Over o → Over (returned_outcome o)

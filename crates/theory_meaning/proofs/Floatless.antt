@@ -1,11 +1,11 @@
 -- Constants that hold no float: texts write them alike under every host.
-use Rattle.std.proofs.Common.{◌≡◌, Bool, true, false, not, ◌&&◌, ◌||◌, cond, List, [], ◌∷◌, ◌++◌, Option, Some, None, refl, sym, ap, ◌∙◌, subst, if◌then◌else◌}
-use Rattle.rhai_base.specs.Value.{Text, Value, TextV, ArrayV, MapV, values, Fields, no_fields, field, same_text, holds_float, hold_float, fields_hold_float, text_of}
+use Rattle.std.proofs.Common.{◌≡◌, Bool, true, false, not, ◌||◌, cond, List, [], ◌∷◌, ◌++◌, Option, Some, None, refl, sym, ap, ◌∙◌, subst, if◌then◌else◌}
+use Rattle.rhai_base.specs.Value.{Text, Value, values, Fields, no_fields, field, same_text, holds_float, hold_float, fields_hold_float, text_of}
 use Rattle.rhai_base.specs.Operators.{text_lt}
 use Rattle.theory_meaning.specs.Act.{Host}
 use Rattle.theory_meaning.specs.Constants.{array_value, map_value, joined_value, where_floatless, text_constants, value_and, entry_and, is_floatless, are_floatless, pairs_are_floatless, constant_value, constant_values, constant_entries}
 use Rattle.theory_meaning.specs.Control.{text_in, texts_joined}
-use Rattle.theory_meaning.specs.Elements.{with_entry, with_entries, fields_of}
+use Rattle.theory_meaning.specs.Elements.{with_entry, with_entries}
 use Rattle.theory_meaning.specs.Tree.{Expr, DynamicConstant, BoolConstant, IntegerConstant, FloatConstant, CharConstant, StringConstant, UnitConstant, InterpolatedString, ArrayOf, MapOf, Exprs, no_exprs, expr, Pairs, no_pairs, pair}
 use Rattle.theory_meaning.proofs.PureTrees.{no, split}
 

@@ -1,6 +1,8 @@
 pub mod Relations
 pub mod Preserves
 pub mod Monotone
+pub mod Anywhere
+pub mod Globals
 pub mod Ends
 pub mod Sequencing
 pub mod Truth

@@ -2,7 +2,7 @@
 use Rattle.std.proofs.Common.{◌≡◌, ℕ, Bool, true, false, cond, ◌&&◌, List, ◌∷◌, Some, refl, sym, ap, ◌∙◌}
 use Rattle.std.proofs.lemmas.Slice.Eq.{bytes_eq-Decides}
 use Rattle.rhai_base.specs.Value.{Text, Value, UnitV, same_text}
-use Rattle.theory_meaning.specs.Act.{EntryKind, IsVariable, IsConstant, IsExport, is_constant, is_alias, module_name, resolved, found, read, World, ScopeEntry, Store, Ending, Gives, Leaves, OfName, Act, Read, Acts, Named, Env, and_then, run, run_all}
+use Rattle.theory_meaning.specs.Act.{EntryKind, IsVariable, IsConstant, IsExport, is_constant, is_alias, module_name, resolved, found, read, declared, World, ScopeEntry, Store, Ending, Gives, Leaves, OfName, Act, Read, Acts, Named, Env, and_then, run, run_all}
 use Rattle.theory_meaning.specs.ActForms.{each_value, then_line}
 use Rattle.theory_meaning.specs.Desugar.{name_kind, core_expr}
 use Rattle.theory_meaning.specs.Laws.{ExportedLaw, UnexportedLaw}
@@ -23,7 +23,7 @@ module _ (w : World) (env : Env) (next : Value → Acts) where
 
   exports_it : (k : Bool) (x : Text) (v : Value) (s : Store) (t : ℕ) → run_all w env (Named x (name_kind k) v (Named x IsExport v (next UnitV))) s t ≡ run_all w env (Named x (name_kind k) v (then_line (Read (OfName x)) (λ u. Named x IsExport u (next UnitV)))) s t
   exports_it k x v s t =
-      let s1 : Store = record s { scope = record { name = x; kind = name_kind k; value = v } ∷ s.scope } in
+      let s1 = declared x (name_kind k) v s in
       ap (λ o. and_then (read o s1 t) (λ e. run_all w env (each_value (λ u. Named x IsExport u (next UnitV)) e))) (sym (found_there k x v s.scope))
 
   each_exports : (k : Bool) (x : Text) (e : Ending) (s : Store) (t : ℕ) → run_all w env (each_value (λ v. Named x (name_kind k) v (Named x IsExport v (next UnitV))) e) s t ≡ run_all w env (each_value (λ v. Named x (name_kind k) v (then_line (Read (OfName x)) (λ u. Named x IsExport u (next UnitV)))) e) s t

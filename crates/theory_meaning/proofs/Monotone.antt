@@ -1,7 +1,8 @@
 -- One result follows another: how that passes through each part of a run. More turns and a deeper call.
 use Rattle.std.proofs.Common.{ℕ, zero, suc, ◌+◌, ◌≤◌, Bool, true, false, List, [], ◌∷◌, ◌++◌, Option, Some, None, arith}
 use Rattle.rhai_base.specs.Value.{Text, Value}
-use Rattle.theory_meaning.specs.Act.{ScopeEntry, is_constant, resolved, HostCall, Store, World, Again, Ending, Gives, Leaves, Halt, OutOfTurns, Ended, Halted, Result, At, Root, OfName, OfThis, ScriptCall, Act, Stop, Fail, Then, Turn, Read, Write, Resolve, AskHost, Invoke, Loop, Scoped, Acts, Only, Do, Named, Finish, Env, and_then, with_turn, found, read, read_this, read_root, write_at, write, write_this, write_root, leave, call_then, returned, on_again, rounds, run, run_all}
+use Rattle.theory_meaning.specs.Engine.{constant_named}
+use Rattle.theory_meaning.specs.Act.{ScopeEntry, is_constant, resolved, HostCall, Store, World, Again, Ending, Gives, Leaves, Halt, OutOfTurns, Ended, Halted, Result, At, Root, OfName, OfGlobal, OfThis, ScriptCall, Act, Stop, Fail, Then, Turn, Read, Write, Resolve, AskHost, Invoke, Loop, Scoped, Acts, Only, Do, Named, Finish, Env, and_then, with_turn, found, read, read_global, read_this, read_root, write_at, write, write_global, write_this, write_root, leave, call_then, returned, on_again, rounds, run, run_all}
 use Rattle.theory_meaning.specs.Relations.{Begins, here, calls_of, store_of}
 use Rattle.theory_meaning.proofs.Relations.{Follows, same, short, AnyHalt, IsOut, Keeps}
 use Rattle.theory_meaning.proofs.Preserves.{begins_trans, After, after_same, preserves_on_again, preserves_rounds, OnlyAdds, preserves, preserves_all}
@@ -38,9 +39,9 @@ module _ (U : Halt → Type 0) (out : U OutOfTurns) (k : ℕ) where
   follow_on_again (Leaves Again) next next' s t t' le h = h
   follow_on_again e next next' s t t' le h = same le
 
-  pub follow_leave : (es : List ScopeEntry) {r r' : Result} → Follows U k r r' → Follows U k (leave es r) (leave es r')
-  follow_leave es (same le) = same le
-  follow_leave es (short {r = At o s t} u p) = short u p
+  pub follow_leave : (old : Store) {r r' : Result} → Follows U k r r' → Follows U k (leave old r) (leave old r')
+  follow_leave old (same le) = same le
+  follow_leave old (short {r = At o s t} u p) = short u p
 
   pub follow_returned : {r r' : Result} → Follows U k r r' → Follows U k (returned r) (returned r')
   follow_returned (same le) = same le
@@ -50,12 +51,17 @@ module _ (U : Halt → Type 0) (out : U OutOfTurns) (k : ℕ) where
   follow_read None s t t' le = same le
   follow_read (Some e) s t t' le = same le
 
+  follow_read_global : (o : Option Value) (s : Store) (t t' : ℕ) → t + k ≤ t' → Follows U k (read_global o s t) (read_global o s t')
+  follow_read_global None s t t' le = same le
+  follow_read_global (Some v) s t t' le = same le
+
   follow_read_this : (o : Option Value) (s : Store) (t t' : ℕ) → t + k ≤ t' → Follows U k (read_this o s t) (read_this o s t')
   follow_read_this None s t t' le = same le
   follow_read_this (Some v) s t t' le = same le
 
   follow_read_root : (w : World) (r : Root) (s : Store) (t t' : ℕ) → t + k ≤ t' → Follows U k (read_root w r s t) (read_root w r s t')
   follow_read_root w (OfName x) s t t' le = follow_read (found w.engine.constants s.scope x) s t t' le
+  follow_read_root w (OfGlobal x) s t t' le = follow_read_global (constant_named s.globals x) s t t' le
   follow_read_root w OfThis s t t' le = follow_read_this s.this s t t' le
 
   follow_write_at : (must b : Bool) (x : Text) (v : Value) (s : Store) (t t' : ℕ) → t + k ≤ t' → Follows U k (write_at must b x v s t) (write_at must b x v s t')
@@ -67,12 +73,18 @@ module _ (U : Halt → Type 0) (out : U OutOfTurns) (k : ℕ) where
   follow_write must None x v s t t' le = same le
   follow_write must (Some e) x v s t t' le = follow_write_at must (is_constant e.kind) x v s t t' le
 
+  follow_write_global : (must : Bool) (o : Option Value) (s : Store) (t t' : ℕ) → t + k ≤ t' → Follows U k (write_global must o s t) (write_global must o s t')
+  follow_write_global must None s t t' le = same le
+  follow_write_global true (Some v) s t t' le = same le
+  follow_write_global false (Some v) s t t' le = same le
+
   follow_write_this : (o : Option Value) (v : Value) (s : Store) (t t' : ℕ) → t + k ≤ t' → Follows U k (write_this o v s t) (write_this o v s t')
   follow_write_this None v s t t' le = same le
   follow_write_this (Some u) v s t t' le = same le
 
   follow_write_root : (w : World) (must : Bool) (r : Root) (v : Value) (s : Store) (t t' : ℕ) → t + k ≤ t' → Follows U k (write_root w must r v s t) (write_root w must r v s t')
   follow_write_root w must (OfName x) v s t t' le = follow_write must (found w.engine.constants s.scope x) x v s t t' le
+  follow_write_root w must (OfGlobal x) v s t t' le = follow_write_global must (constant_named s.globals x) s t t' le
   follow_write_root w must OfThis v s t t' le = follow_write_this s.this v s t t' le
 
   abbrev Rising : Action → Action → Type 0
@@ -100,7 +112,7 @@ module _ (U : Halt → Type 0) (out : U OutOfTurns) (k : ℕ) where
   -- the second environment goes as deep and deeper
   pub record Deeper (env env' : Env) : Type 0 where
     pub rounds : env.rounds ≤ env'.rounds
-    pub invoke : (a : ScriptCall) (scope : List ScopeEntry) (calls : List HostCall) (t t' : ℕ) → t + k ≤ t' → Follows U k (env.invoke a scope calls t) (env'.invoke a scope calls t')
+    pub invoke : (a : ScriptCall) (s : Store) (t t' : ℕ) → t + k ≤ t' → Follows U k (env.invoke a s t) (env'.invoke a s t')
     pub adds : OnlyAdds env'
 
   module _ (w : World) (env env' : Env) (deep : Deeper env env') where
@@ -115,9 +127,9 @@ module _ (U : Halt → Type 0) (out : U OutOfTurns) (k : ℕ) where
       monotone (Write must r v) s t t' le = follow_write_root w must r v s t t' le
       monotone (Resolve a next) s t t' le = monotone (next (resolved s.scope a)) s t t' le
       monotone (AskHost c next) s t t' le = monotone (next (w.host.answer s.calls c)) (record s { calls = s.calls ++ c ∷ [] }) t t' le
-      monotone (Invoke a next) s t t' le = follow_call s (deep.invoke a s.scope s.calls t t' le) _ _ (λ v u cs t1 t1' le1. monotone (next v u) _ t1 t1' le1) (λ v u s1 t1. (preserves w env' deep.adds (next v u) s1 t1).calls)
+      monotone (Invoke a next) s t t' le = follow_call s (deep.invoke a s t t' le) _ _ (λ v u cs t1 t1' le1. monotone (next v u) _ t1 t1' le1) (λ v u s1 t1. (preserves w env' deep.adds (next v u) s1 t1).calls)
       monotone (Loop a) s t t' le = follow_rounds (λ s. Unit {0}) env.rounds env'.rounds deep.rounds _ _ (λ s1 t1 t1' q le1. monotone a s1 t1 t1' le1) (λ s1 t1 q. tt) (λ s1 t1. preserves w env' deep.adds a s1 t1) s t t' tt le
-      monotone (Scoped p) s t t' le = follow_leave s.scope (monotone_all p s t t' le)
+      monotone (Scoped p) s t t' le = follow_leave s (monotone_all p _ t t' le)
 
       pub monotone_all : (p : Acts) → Rising (run_all w env p) (run_all w env' p)
       monotone_all (Only a) s t t' le = monotone a s t t' le

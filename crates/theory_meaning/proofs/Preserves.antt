@@ -1,8 +1,8 @@
 -- What holds of a single act: calls are only added, and the names of the scope and its constants stay.
 use Rattle.std.proofs.Common.{◌≡◌, ℕ, zero, suc, ◌-◌, ◌≤◌, Bool, true, false, cond, List, [], ◌∷◌, ◌++◌, length, drop, Option, Some, None, refl, sym, ap, ◌∙◌, subst, arith}
 use Rattle.rhai_base.specs.Value.{Text, Value}
-use Rattle.theory_meaning.specs.Engine.{Binding}
-use Rattle.theory_meaning.specs.Act.{ScopeEntry, is_constant, is_called, HostCall, Store, World, Again, Ending, Gives, Leaves, Ended, Halted, Result, At, Root, OfName, OfThis, Act, Stop, Fail, Then, Turn, Read, Write, Resolve, AskHost, Invoke, Loop, Scoped, Acts, Only, Do, Named, Finish, Env, and_then, with_turn, found, put, read, read_this, read_root, write_at, write, write_this, write_root, resolved, restore, leave, call_then, returned, on_again, rounds, run, run_all}
+use Rattle.theory_meaning.specs.Engine.{Binding, constant_named}
+use Rattle.theory_meaning.specs.Act.{ScopeEntry, is_constant, is_called, HostCall, Store, World, Again, Ending, Gives, Leaves, Ended, Halted, Result, At, Root, OfName, OfGlobal, OfThis, Act, Stop, Fail, Then, Turn, Read, Write, Resolve, AskHost, Invoke, Loop, Scoped, Acts, Only, Do, Named, Finish, Env, and_then, with_turn, found, put, read, read_global, read_this, read_root, write_at, write, write_global, write_this, write_root, resolved, declared, inside, restore, leave, call_then, returned, on_again, rounds, run, run_all}
 use Rattle.theory_meaning.specs.Relations.{Begins, here, more, calls_of, store_of}
 pub use Rattle.theory_meaning.specs.Relations.{OnlyAdds}
 use Rattle.theory_meaning.proofs.Relations.{Keeps, none, one, changed, Grows, kept, pushed}
@@ -119,6 +119,10 @@ preserves_read : (o : Option ScopeEntry) (s : Store) (t : ℕ) → After Keeps s
 preserves_read None s t = after_same s
 preserves_read (Some e) s t = after_same s
 
+preserves_read_global : (o : Option Value) (s : Store) (t : ℕ) → After Keeps s (store_of (read_global o s t))
+preserves_read_global None s t = after_same s
+preserves_read_global (Some v) s t = after_same s
+
 preserves_read_this : (o : Option Value) (s : Store) (t : ℕ) → After Keeps s (store_of (read_this o s t))
 preserves_read_this None s t = after_same s
 preserves_read_this (Some v) s t = after_same s
@@ -132,19 +136,26 @@ preserves_write : (bs : List Binding) (must : Bool) (o : Option ScopeEntry) (x :
 preserves_write bs must None x v s t f = after_same s
 preserves_write bs must (Some e) x v s t f = preserves_write_at bs must (is_constant e.kind) e x v s t refl f
 
+preserves_write_global : (must : Bool) (o : Option Value) (s : Store) (t : ℕ) → After Keeps s (store_of (write_global must o s t))
+preserves_write_global must None s t = after_same s
+preserves_write_global true (Some v) s t = after_same s
+preserves_write_global false (Some v) s t = after_same s
+
 preserves_write_this : (o : Option Value) (v : Value) (s : Store) (t : ℕ) → After Keeps s (store_of (write_this o v s t))
 preserves_write_this None v s t = after_same s
 preserves_write_this (Some u) v s t = record { calls = here; scope = keeps_refl s.scope }
 
 preserves_read_root : (w : World) (r : Root) (s : Store) (t : ℕ) → After Keeps s (store_of (read_root w r s t))
 preserves_read_root w (OfName x) s t = preserves_read (found w.engine.constants s.scope x) s t
+preserves_read_root w (OfGlobal x) s t = preserves_read_global (constant_named s.globals x) s t
 preserves_read_root w OfThis s t = preserves_read_this s.this s t
 
 preserves_write_root : (w : World) (must : Bool) (r : Root) (v : Value) (s : Store) (t : ℕ) → After Keeps s (store_of (write_root w must r v s t))
 preserves_write_root w must (OfName x) v s t = preserves_write w.engine.constants must (found w.engine.constants s.scope x) x v s t refl
+preserves_write_root w must (OfGlobal x) v s t = preserves_write_global must (constant_named s.globals x) s t
 preserves_write_root w must OfThis v s t = preserves_write_this s.this v s t
 
-preserves_leave : (s : Store) (r : Result) → After Grows s (store_of r) → After Keeps s (store_of (leave s.scope r))
+preserves_leave : (s : Store) (r : Result) → After Grows (inside s) (store_of r) → After Keeps s (store_of (leave s r))
 preserves_leave s (At o s1 t1) p = record { calls = p.calls; scope = restore_grows p.scope }
 
 preserves_call : (s : Store) (r : Result) → Begins s.calls (calls_of r) → (next : Value → Option Value → Store → ℕ → Result) → ((v : Value) (u : Option Value) (s1 : Store) (t1 : ℕ) → After Keeps s1 (store_of (next v u s1 t1))) → After Keeps s (store_of (call_then s r next))
@@ -164,14 +175,14 @@ module _ (w : World) (env : Env) (adds : OnlyAdds env) where
     preserves (AskHost c next) s t =
         let q = preserves (next (w.host.answer s.calls c)) (record s { calls = s.calls ++ c ∷ [] }) t in
         record { calls = more c q.calls; scope = q.scope }
-    preserves (Invoke a next) s t = preserves_call s (env.invoke a s.scope s.calls t) (adds a s.scope s.calls t) _ (λ v u s1 t1. preserves (next v u) s1 t1)
+    preserves (Invoke a next) s t = preserves_call s (env.invoke a s t) (adds.calls a s t) _ (λ v u s1 t1. preserves (next v u) s1 t1)
     preserves (Loop a) s t = preserves_rounds env.rounds _ (λ s1 t1. preserves a s1 t1) s t
-    preserves (Scoped p) s t = preserves_leave s (run_all w env p s t) (preserves_all p s t)
+    preserves (Scoped p) s t = preserves_leave s (run_all w env p (inside s) t) (preserves_all p (inside s) t)
 
     pub preserves_all : (p : Acts) (s : Store) (t : ℕ) → After Grows s (store_of (run_all w env p s t))
     preserves_all (Only a) s t = let q = preserves a s t in record { calls = q.calls; scope = kept q.scope }
     preserves_all (Do a next) s t = preserves_then Grows grows_weaker s (run w env a s t) (preserves a s t) _ (λ e s1 t1. preserves_all (next e) s1 t1)
     preserves_all (Finish p) s t = preserves_returned s (run_all w env p s t) (preserves_all p s t)
     preserves_all (Named x k v p) s t =
-        let q = preserves_all p (record s { scope = record { name = x; kind = k; value = v } ∷ s.scope }) t in
+        let q = preserves_all p (declared x k v s) t in
         record { calls = q.calls; scope = grows_tail q.scope }

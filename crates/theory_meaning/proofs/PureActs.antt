@@ -1,8 +1,9 @@
 -- Acts that change nothing: they take some turns, and then give a value or are stuck.
+use Rattle.theory_meaning.specs.Engine.{constant_named}
 use Rattle.std.proofs.Common.{◌≡◌, ℕ, zero, suc, ◌+◌, Bool, true, false, cond, List, [], ◌∷◌, Option, Some, None, refl, sym, ap, ◌∙◌, arith}
 use Rattle.std.specs.Prelude.{nat_lt, ◌^◌, ℤ, pos, ◌+ℤ◌}
 use Rattle.rhai_base.specs.Value.{Text, Value, UnitV, IntV}
-use Rattle.theory_meaning.specs.Act.{World, EntryKind, IsVariable, Unbound, OfName, Read, found, read, ScopeEntry, Store, Ending, Gives, Leaves, Again, Stuck, WrongKind, CounterTooLarge, Halt, IsStuck, OutOfTurns, Outcome, Ended, Halted, Result, At, Act, Stop, Fail, Then, Turn, Loop, Scoped, Acts, Only, Do, Named, Env, and_then, with_turn, leave, restore, rounds, on_again, run}
+use Rattle.theory_meaning.specs.Act.{World, EntryKind, IsVariable, Unbound, OfName, Read, found, read, ScopeEntry, Store, Ending, Gives, Leaves, Again, Stuck, WrongKind, CounterTooLarge, Halt, IsStuck, OutOfTurns, Outcome, Ended, Halted, Result, At, Act, Stop, Fail, Then, Turn, Loop, Scoped, Acts, Only, Do, Named, Env, and_then, with_turn, declared, inside, leave, restore, rounds, on_again, run, OfGlobal, read_global}
 use Rattle.theory_meaning.specs.ActForms.{give, ◌>>=◌, choose, truth, branch, if_true, on_throw, end_round, again_then, each_value, then_line}
 use Rattle.theory_meaning.specs.Control.{round, counted, for_each, for_count}
 use Rattle.theory_meaning.specs.Laws.{Settled, Gave, Stopped, settled, spend}
@@ -37,7 +38,7 @@ spend_halted zero h s t next = refl
 spend_halted (suc n) h s zero next = refl
 spend_halted (suc n) h s (suc t) next = spend_halted n h s t next
 
-spend_leave : (n : ℕ) (o : Outcome) (s : Store) (t : ℕ) → leave s.scope (spend n o s t) ≡ spend n o s t
+spend_leave : (n : ℕ) (o : Outcome) (s : Store) (t : ℕ) → leave s (spend n o (inside s) t) ≡ spend n o s t
 spend_leave zero o s t = ap (λ es. At o (record s { scope = es }) t) (restore_keeps (keeps_refl s.scope))
 spend_leave (suc n) o s zero = ap (λ es. At (Halted OutOfTurns) (record s { scope = es }) zero) (restore_keeps (keeps_refl s.scope))
 spend_leave (suc n) o s (suc t) = spend_leave n o s t
@@ -45,10 +46,10 @@ spend_leave (suc n) o s (suc t) = spend_leave n o s t
 restore_one : (es : List ScopeEntry) (e : ScopeEntry) → restore es (e ∷ es) ≡ es
 restore_one es e = restore_pushed es es e (kept (keeps_refl es)) ∙ restore_keeps (keeps_refl es)
 
-spend_named : (n : ℕ) (o : Outcome) (s : Store) (e : ScopeEntry) (t : ℕ) → leave s.scope (spend n o (record s { scope = e ∷ s.scope }) t) ≡ spend n o s t
-spend_named zero o s e t = ap (λ es. At o (record s { scope = es }) t) (restore_one s.scope e)
-spend_named (suc n) o s e zero = ap (λ es. At (Halted OutOfTurns) (record s { scope = es }) zero) (restore_one s.scope e)
-spend_named (suc n) o s e (suc t) = spend_named n o s e t
+spend_named : (n : ℕ) (o : Outcome) (s : Store) (x : Text) (c : EntryKind) (v : Value) (t : ℕ) → leave s (spend n o (declared x c v (inside s)) t) ≡ spend n o s t
+spend_named zero o s x c v t = ap (λ es. At o (record s { scope = es }) t) (restore_one s.scope _)
+spend_named (suc n) o s x c v zero = ap (λ es. At (Halted OutOfTurns) (record s { scope = es }) zero) (restore_one s.scope _)
+spend_named (suc n) o s x c v (suc t) = spend_named n o s x c v t
 
 spend_settled : (n : ℕ) (z : Settled) (s : Store) (t : ℕ) (next : Store → ℕ → Result) → and_then (spend n (settled z) s t) (λ e. on_again e next) ≡ spend n (settled z) s t
 spend_settled zero (Gave v) s t next = refl
@@ -124,7 +125,7 @@ module _ (w : World) where
   -- ---- lists
 
   pub l_only : (a : Act) → Pure a → PureList (Only a)
-  l_only a p = record { scoped = record { cost = p.cost; end = p.end; runs = record { by = λ env adds s t. ap (leave s.scope) (p.runs.by env adds s t) ∙ spend_leave p.cost (settled p.end) s t } } }
+  l_only a p = record { scoped = record { cost = p.cost; end = p.end; runs = record { by = λ env adds s t. ap (leave s) (p.runs.by env adds (inside s) t) ∙ spend_leave p.cost (settled p.end) s t } } }
 
   pub l_named : (x : Text) (c : EntryKind) (v : Value) (p : Acts) → PureList p → PureList (Named x c v p)
   l_named x c v p h =
@@ -135,9 +136,7 @@ module _ (w : World) where
           end = q.end;
           runs = record {
             by = λ env adds s t.
-                let e : ScopeEntry = record { name = x; kind = c; value = v } in
-                let s1 : Store = record s { scope = e ∷ s.scope } in
-                scoped_named w env adds x c v p s t ∙ ap (leave s.scope) (q.runs.by env adds s1 t) ∙ spend_named q.cost (settled q.end) s e t;
+                scoped_named w env adds x c v p s t ∙ ap (leave s) (q.runs.by env adds (declared x c v (inside s)) t) ∙ spend_named q.cost (settled q.end) s x c v t;
           };
         };
       }
@@ -146,9 +145,7 @@ module _ (w : World) where
   pub unnamed : (x : Text) (c : EntryKind) (v : Value) (p : Acts) → PureList p → (env : Env) → OnlyAdds env → (s : Store) (t : ℕ) → run w env (Scoped (Named x c v p)) s t ≡ run w env (Scoped p) s t
   unnamed x c v p h env adds s t =
       let q = h.scoped in
-      let e : ScopeEntry = record { name = x; kind = c; value = v } in
-      let s1 : Store = record s { scope = e ∷ s.scope } in
-      scoped_named w env adds x c v p s t ∙ ap (leave s.scope) (q.runs.by env adds s1 t) ∙ spend_named q.cost (settled q.end) s e t ∙ sym (q.runs.by env adds s t)
+      scoped_named w env adds x c v p s t ∙ ap (leave s) (q.runs.by env adds (declared x c v (inside s)) t) ∙ spend_named q.cost (settled q.end) s x c v t ∙ sym (q.runs.by env adds s t)
 
   l_do : (a : Act) (next : Ending → Acts) (n m : ℕ) (e : Ending) (z : Settled) → Runs a n (Ended e) → Runs (Scoped (next e)) m (settled z) → PureList (Do a next)
   l_do a next n m e z h k = record {
@@ -199,6 +196,13 @@ module _ (w : World) where
   pub calm_read : (x : Text) → Calm (Read (OfName x))
   calm_read x = record { from = λ s. read_from x s _ refl }
 
+  read_global_from : (x : Text) (s : Store) (o : Option Value) → constant_named s.globals x ≡ o → PureFrom (Read (OfGlobal x)) s
+  read_global_from x s None q = record { cost = 0; end = Stopped Unbound; by = λ env adds t. ap (λ z. read_global z s t) q }
+  read_global_from x s (Some v) q = record { cost = 0; end = Gave v; by = λ env adds t. ap (λ z. read_global z s t) q }
+
+  pub calm_read_global : (x : Text) → Calm (Read (OfGlobal x))
+  calm_read_global x = record { from = λ s. read_global_from x s _ refl }
+
   then_from : (a : Act) (next : Ending → Act) (s : Store) (n : ℕ) (z : Settled) → ((env : Env) → OnlyAdds env → (t : ℕ) → run w env a s t ≡ spend n (settled z) s t) → ((v : Value) → PureFrom (next (Gives v)) s) → PureFrom (Then a next) s
   then_from a next s n (Gave v) h k =
       let q = k v in
@@ -217,8 +221,8 @@ module _ (w : World) where
   calm_only {a = a} p = record {
     scoped = record {
       from = λ s.
-          let q = p.from s in
-          record { cost = q.cost; end = q.end; by = λ env adds t. ap (leave s.scope) (q.by env adds t) ∙ spend_leave q.cost (settled q.end) s t };
+          let q = p.from (inside s) in
+          record { cost = q.cost; end = q.end; by = λ env adds t. ap (leave s) (q.by env adds t) ∙ spend_leave q.cost (settled q.end) s t };
     };
   }
 
@@ -236,13 +240,11 @@ module _ (w : World) where
   calm_named x k v {p = p} h = record {
     scoped = record {
       from = λ s.
-          let e : ScopeEntry = record { name = x; kind = k; value = v } in
-          let s1 : Store = record s { scope = e ∷ s.scope } in
-          let q = h.scoped.from s1 in
+          let q = h.scoped.from (declared x k v (inside s)) in
           record {
             cost = q.cost;
             end = q.end;
-            by = λ env adds t. scoped_named w env adds x k v p s t ∙ ap (leave s.scope) (q.by env adds t) ∙ spend_named q.cost (settled q.end) s e t;
+            by = λ env adds t. scoped_named w env adds x k v p s t ∙ ap (leave s) (q.by env adds t) ∙ spend_named q.cost (settled q.end) s x k v t;
           };
     };
   }

@@ -8,7 +8,7 @@ use Rattle.theory_meaning.specs.ActForms.{give, unit, ◌>>=◌, value_then, eac
 use Rattle.theory_meaning.specs.Calls.{assigned, Word, TypeOf, IsShared, Fn, Curry, CallFn, word, curried, call_pointer, call_word, within, called}
 use Rattle.theory_meaning.specs.Chains.{Access, OfProperty, OfIndex, OfMethod, property, index, method_key, to_method, value_alone, method, applied, unless_unit, set_at, assign_last, assign_root}
 use Rattle.theory_meaning.specs.Control.{text_in, texts_joined, switch_on, round, while_guarded, do_loop, for_all, try_of}
-use Rattle.theory_meaning.specs.Core.{Callee, OnOperator, Qualified, ByName, Expr, Ill, Constant, InterpolatedString, ArrayOf, MapOf, Variable, ModuleVariable, ModuleOf, ThisPtr, BlockExpr, FnCall, Chain, And, Or, Coalesce, Exprs, no_exprs, expr, Pairs, no_pairs, pair, Base, OnPlace, OnValue, Step, IllStep, Property, Index, Method, Steps, last, more, Target, IllTarget, Nowhere, ToRoot, ToPart, Guard, Always, When, Arms, no_arms, arm, Deed, IllDeed, Noop, If, Switch, While, Do, For, Assignment, Block, TryCatch, Evaluate, Discard, Leave, Stmt, Var, Does, Stmts, no_stmts, stmt}
+use Rattle.theory_meaning.specs.Core.{Callee, OnOperator, Qualified, ByName, Expr, Ill, Constant, InterpolatedString, ArrayOf, MapOf, Variable, GlobalVariable, ModuleVariable, ModuleOf, ThisPtr, BlockExpr, FnCall, Chain, And, Or, Coalesce, Exprs, no_exprs, expr, Pairs, no_pairs, pair, Base, OnPlace, OnValue, Step, IllStep, Property, Index, Method, Steps, last, more, Target, IllTarget, Nowhere, ToRoot, ToPart, Guard, Always, When, Arms, no_arms, arm, Deed, IllDeed, Noop, If, Switch, While, Do, For, Assignment, Block, TryCatch, Evaluate, Discard, Leave, Stmt, Var, Does, Stmts, no_stmts, stmt}
 use Rattle.theory_meaning.specs.Meaning.{text, exit, module_known, module_at, exporting, act, with_args, with_pairs, both, either, first_some, at_base, access, steps, assign_steps, assign, arm_acts, loop, deed, line, acts}
 use Rattle.theory_meaning.specs.Places.{Current, without_place, at_root, refreshed}
 use Rattle.theory_meaning.specs.Run.{body_acts}
@@ -82,6 +82,7 @@ module _ (engine : Engine) (functions : List Key) (h h' : Host) (modules : (x : 
     same_act (ArrayOf es) = same_args es _ _ (λ vs. refl)
     same_act (MapOf ps) = same_pairs ps _ _ (λ vs. refl)
     same_act (Variable x) = refl
+    same_act (GlobalVariable x) = refl
     same_act (ModuleVariable m x) = λ i. Resolve m (λ n. of_constant (modules (within n x) i))
     same_act (ModuleOf e) = λ i. Then (same_act e i) (λ x. value_then (λ v. same_module v i) x)
     same_act ThisPtr = refl

@@ -1,13 +1,15 @@
 -- The laws of sequencing: unit, associativity and extensionality, of results, of acts by their value, and of lists; what
 -- leaves takes nothing of what follows with it. Braces and the end of a body pass through.
-use Rattle.std.proofs.Common.{◌≡◌, ℕ, ◌-◌, List, ◌∷◌, length, drop, refl, ap, ◌∙◌}
+use Rattle.std.proofs.Common.{◌≡◌, ℕ, false, ◌-◌, length, drop, refl, sym, ap, ◌∙◌}
 use Rattle.rhai_base.specs.Value.{Text, Value}
-use Rattle.theory_meaning.specs.Act.{EntryKind, ScopeEntry, Store, World, Exit, Ending, Gives, Leaves, Ended, Halted, Result, At, Act, Stop, Then, Scoped, Acts, Only, Do, Named, Finish, Env, and_then, leave, returned, run, run_all}
+use Rattle.theory_meaning.specs.Act.{EntryKind, Store, World, Exit, Ending, Gives, Leaves, Ended, Halted, Result, At, Act, Stop, Then, Scoped, Acts, Only, Do, Named, Finish, Env, and_then, declared, inside, leave, returned, run, run_all}
 use Rattle.theory_meaning.specs.ActForms.{give, value_then, ◌>>=◌, each_value, then_line}
 use Rattle.theory_meaning.specs.Relations.{store_of}
 use Rattle.theory_meaning.proofs.Relations.{Keeps, Grows}
 use Rattle.theory_meaning.proofs.Preserves.{OnlyAdds, keeps_refl, length_keeps, preserves, restore_keeps, restore_twice, preserves_all}
 use Rattle.theory_meaning.proofs.Monotone.{Action}
+use Rattle.theory_meaning.proofs.Anywhere.{ended_within, run_anywhere}
+use Rattle.theory_meaning.proofs.Globals.{globals_kept}
 
 -- ---- results, and what comes after by how they end
 
@@ -27,29 +29,34 @@ pub then_same_at : (Q : Store → Type 0) (r : Result) (f g : Ending → Action)
 then_same_at Q (At (Ended e) s t) f g q h = h e s t q
 then_same_at Q (At (Halted x) s t) f g q h = refl
 
--- nothing is taken away where no name was added
-pub leave_kept : (es : List ScopeEntry) (r : Result) → Keeps es (store_of r).scope → leave es r ≡ r
-leave_kept es (At o s t) k = ap (λ fs. At o (record s { scope = fs }) t) (restore_keeps k)
+-- where an act came to: no name is added, in the list that it is run in
+pub record Beside (s s' : Store) : Type 0 where
+  pub scope : Keeps s.scope s'.scope
+  pub own : s'.is_own ≡ s.is_own
 
-pub leave_same : (s : Store) (e : Ending) (t : ℕ) → leave s.scope (At (Ended e) s t) ≡ At (Ended e) s t
-leave_same s e t = leave_kept s.scope (At (Ended e) s t) (keeps_refl s.scope)
+-- nothing is taken away where no name was added
+pub leave_kept : (old : Store) (r : Result) → Beside old (store_of r) → leave old (ended_within false r) ≡ r
+leave_kept old (At o s t) k = λ i. At o (record s { scope = restore_keeps k.scope i; is_own = sym k.own i }) t
+
+pub leave_same : (s : Store) (e : Ending) (t : ℕ) → leave s (At (Ended e) (inside s) t) ≡ At (Ended e) s t
+leave_same s e t = leave_kept s (At (Ended e) s t) (record { scope = keeps_refl s.scope; own = refl })
 
 -- by the number of names alone
-leave_by : (es fs : List ScopeEntry) → Keeps es fs → (r : Result) → leave es r ≡ leave fs r
-leave_by es fs k (At o s t) = ap (λ n. At o (record s { scope = drop (length s.scope - n) s.scope }) t) (length_keeps k)
+leave_by : (s s' : Store) → Beside s s' → (r : Result) → leave s r ≡ leave s' r
+leave_by s s' k (At o st t) = λ i. At o (record st { scope = drop (length st.scope - length_keeps k.scope i) st.scope; is_own = sym k.own i }) t
 
 -- names that are added later are taken away later
-pub leave_then : (es : List ScopeEntry) (r : Result) (next : Ending → Action) → Keeps es (store_of r).scope → leave es (and_then r next) ≡ and_then r (λ e s t. leave es (next e s t))
-leave_then es (At (Ended e) s t) next k = refl
-leave_then es (At (Halted h) s t) next k = leave_kept es (At (Halted h) s t) k
+pub leave_then : (old : Store) (r : Result) (next : Ending → Action) → Beside old (store_of r) → leave old (and_then (ended_within false r) next) ≡ and_then r (λ e s t. leave old (next e (inside s) t))
+leave_then old (At (Ended e) s t) next k = refl
+leave_then old (At (Halted h) s t) next k = leave_kept old (At (Halted h) s t) k
 
 pub returned_then : (r : Result) (next : Ending → Action) → returned (and_then r next) ≡ and_then r (λ e s t. returned (next e s t))
 returned_then (At (Ended e) s t) next = refl
 returned_then (At (Halted h) s t) next = refl
 
 -- names of a list in a list may be taken away one by one
-leave_twice : (es : List ScopeEntry) (x : ScopeEntry) (r : Result) → Grows (x ∷ es) (store_of r).scope → leave es r ≡ leave es (leave (x ∷ es) r)
-leave_twice es x (At o s t) g = ap (λ fs. At o (record s { scope = fs }) t) (restore_twice es s.scope x g)
+leave_twice : (old : Store) (x : Text) (c : EntryKind) (v : Value) (r : Result) → Grows (declared x c v old).scope (store_of r).scope → leave old r ≡ leave old (leave (declared x c v (inside old)) r)
+leave_twice old x c v (At o s t) g = ap (λ fs. At o (record s { scope = fs; is_own = old.is_own }) t) (restore_twice old.scope s.scope _ g)
 
 -- ---- acts and lists in one world
 
@@ -116,20 +123,23 @@ module _ (w : World) (env : Env) where
 
   -- braces, where calls alone are added: a single act needs none, and an act may stand before them
   module _ (adds : OnlyAdds env) where
+    beside : (a : Act) (s : Store) (t : ℕ) → Beside s (store_of (run w env a s t))
+    beside a s t = record { scope = (preserves w env adds a s t).scope; own = (globals_kept w env a s t).own }
+
     pub scoped_only : (a : Act) → SameRun (Scoped (Only a)) a
-    scoped_only a s t = leave_kept s.scope (run w env a s t) (preserves w env adds a s t).scope
+    scoped_only a s t = ap (leave s) (run_anywhere false w env adds a s t) ∙ leave_kept s (run w env a s t) (beside a s t)
 
     pub scoped_do : (a : Act) (next : Ending → Acts) → SameRun (Scoped (Do a next)) (Then a (λ e. Scoped (next e)))
     scoped_do a next s t =
-        let k = (preserves w env adds a s t).scope in
-        leave_then s.scope (run w env a s t) _ k ∙ then_same_at (λ s1. Keeps s.scope s1.scope) (run w env a s t) _ _ k (λ e s1 t1 q. leave_by s.scope s1.scope q (run_all w env (next e) s1 t1))
+        let k = beside a s t in
+        ap (λ r. leave s (and_then r (λ e. run_all w env (next e)))) (run_anywhere false w env adds a s t)
+        ∙ leave_then s (run w env a s t) _ k ∙ then_same_at (Beside s) (run w env a s t) _ _ k (λ e s1 t1 q. leave_by s s1 q (run_all w env (next e) (inside s1) t1))
 
     -- a name may be taken away by itself
     pub scoped_named : (x : Text) (c : EntryKind) (v : Value) (p : Acts) → SameRun (Scoped (Named x c v p)) (Scoped (Named x c v (Only (Scoped p))))
     scoped_named x c v p s t =
-        let e : ScopeEntry = record { name = x; kind = c; value = v } in
-        let s1 : Store = record s { scope = e ∷ s.scope } in
-        leave_twice s.scope e (run_all w env p s1 t) (preserves_all w env adds p s1 t).scope
+        let s1 = declared x c v (inside s) in
+        leave_twice s x c v (run_all w env p s1 t) (preserves_all w env adds p s1 t).scope
 
   -- the end of a body: an act may stand before it
   pub finish_do : (a : Act) (next : Ending → Acts) → SameRunAll (Finish (Do a next)) (Do a (λ e. Finish (next e)))

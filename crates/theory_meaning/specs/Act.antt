@@ -59,9 +59,12 @@ pub record World : Type 0 where
   pub host : Host
   pub functions : List Key
 
--- the names, aliases and exports, latest first, `this`, and the host calls in order
+-- the names, aliases and exports, latest first; the constants that functions see as `global::x`, latest last; whether the
+-- script's own list is run, whose constants they see; `this`, and the host calls in order
 pub record Store : Type 0 where
   pub scope : List ScopeEntry
+  pub globals : List Binding
+  pub is_own : Bool
   pub this : Option Value
   pub calls : List HostCall
 
@@ -101,6 +104,7 @@ pub data Result : Type 0 where
 
 pub data Root : Type 0 where
   OfName : Text → Root
+  OfGlobal : Text → Root
   OfThis : Root
 
 -- a script call
@@ -143,10 +147,10 @@ mutual
     Named : Text → EntryKind → Value → Acts → Acts
     Finish : Acts → Acts
 
--- the rounds of a loop, and a script call: a function of the caller's scope, the calls so far and the turns left
+-- the rounds of a loop, and a script call: a function of the caller's store and the turns left
 pub record Env : Type 0 where
   pub rounds : ℕ
-  pub invoke : ScriptCall → List ScopeEntry → List HostCall → ℕ → Result
+  pub invoke : ScriptCall → Store → ℕ → Result
 
 abbrev pub and_then : Result → (Ending → Store → ℕ → Result) → Result
 and_then (At (Ended e) st t) next = next e st t
@@ -182,12 +186,17 @@ abbrev pub read : Option ScopeEntry → Store → ℕ → Result
 read None st t = At (Halted (IsStuck Unbound)) st t
 read (Some e) st t = At (Ended (Gives e.value)) st t
 
+abbrev pub read_global : Option Value → Store → ℕ → Result
+read_global None st t = At (Halted (IsStuck Unbound)) st t
+read_global (Some v) st t = At (Ended (Gives v)) st t
+
 abbrev pub read_this : Option Value → Store → ℕ → Result
 read_this None st t = At (Halted (IsStuck UnboundThis)) st t
 read_this (Some v) st t = At (Ended (Gives v)) st t
 
 abbrev pub read_root : World → Root → Store → ℕ → Result
 read_root w (OfName x) st t = read (found w.engine.constants st.scope x) st t
+read_root w (OfGlobal x) st t = read_global (constant_named st.globals x) st t
 read_root w OfThis st t = read_this st.this st t
 
 -- by whether it must be written, and whether it is a constant
@@ -200,20 +209,42 @@ abbrev pub write : Bool → Option ScopeEntry → Text → Value → Store → �
 write must None x v st t = At (Halted (IsStuck Unbound)) st t
 write must (Some e) x v st t = write_at must (is_constant e.kind) x v st t
 
+-- a constant stays as it is
+abbrev pub write_global : Bool → Option Value → Store → ℕ → Result
+write_global must None st t = At (Halted (IsStuck Unbound)) st t
+write_global true (Some v) st t = At (Halted (IsStuck WriteToConstant)) st t
+write_global false (Some v) st t = At (Ended (Gives UnitV)) st t
+
 abbrev pub write_this : Option Value → Value → Store → ℕ → Result
 write_this None v st t = At (Halted (IsStuck UnboundThis)) st t
 write_this (Some u) v st t = At (Ended (Gives UnitV)) (record st { this = Some v }) t
 
 abbrev pub write_root : World → Bool → Root → Value → Store → ℕ → Result
 write_root w must (OfName x) v st t = write must (found w.engine.constants st.scope x) x v st t
+write_root w must (OfGlobal x) v st t = write_global must (constant_named st.globals x) st t
 write_root w must OfThis v st t = write_this st.this v st t
 
--- a block takes away what it added
+abbrev pub is_published : EntryKind → Bool
+is_published IsConstant = true
+is_published _ = false
+
+-- functions see the constants of the script's own list
+abbrev pub published : Bool → Text → Value → List Binding → List Binding
+published true x v bs = bs ++ record { name = x; value = v } ∷ []
+published false x v bs = bs
+
+abbrev pub declared : Text → EntryKind → Value → Store → Store
+declared x k v st = record st { scope = record { name = x; kind = k; value = v } ∷ st.scope; globals = published (st.is_own && is_published k) x v st.globals }
+
+-- a list inside, which takes away what it added
+abbrev pub inside : Store → Store
+inside st = record st { is_own = false }
+
 abbrev pub restore : List ScopeEntry → List ScopeEntry → List ScopeEntry
 restore old new = drop (length new - length old) new
 
-abbrev pub leave : List ScopeEntry → Result → Result
-leave old (At o st t) = At o (record st { scope = restore old st.scope }) t
+abbrev pub leave : Store → Result → Result
+leave old (At o st t) = At o (record st { scope = restore old.scope st.scope; is_own = old.is_own }) t
 
 -- after a script call: back in the old store but for the calls
 abbrev pub call_then : Store → Result → (Value → Option Value → Store → ℕ → Result) → Result
@@ -253,13 +284,12 @@ abbrev mutual
   run w env (Write must r v) st t = write_root w must r v st t
   run w env (Resolve a next) st t = run w env (next (resolved st.scope a)) st t
   run w env (AskHost c next) st t = run w env (next (w.host.answer st.calls c)) (record st { calls = st.calls ++ c ∷ [] }) t
-  run w env (Invoke a next) st t = call_then st (env.invoke a st.scope st.calls t) (λ v u. run w env (next v u))
+  run w env (Invoke a next) st t = call_then st (env.invoke a st t) (λ v u. run w env (next v u))
   run w env (Loop a) st t = rounds env.rounds (run w env a) st t
-  run w env (Scoped p) st t = leave st.scope (run_all w env p st t)
+  run w env (Scoped p) st t = leave st (run_all w env p (inside st) t)
 
   pub run_all : World → Env → Acts → Store → ℕ → Result
   run_all w env (Only a) st t = run w env a st t
   run_all w env (Do a next) st t = and_then (run w env a st t) (λ e. run_all w env (next e))
-  run_all w env (Named x k v p) st t =
-      run_all w env p (record st { scope = record { name = x; kind = k; value = v } ∷ st.scope }) t
+  run_all w env (Named x k v p) st t = run_all w env p (declared x k v st) t
   run_all w env (Finish p) st t = returned (run_all w env p st t)

@@ -28,6 +28,8 @@ mutual
     ArrayOf : Exprs → Expr
     MapOf : Pairs → Expr
     Variable : Text → Expr
+    -- a constant of the script's own list
+    GlobalVariable : Text → Expr
     -- by a module or an alias, and the rest of its name
     ModuleVariable : Text → Text → Expr
     -- the name of the module of a path

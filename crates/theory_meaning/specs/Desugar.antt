@@ -1,10 +1,10 @@
 -- From trees to their core: each test of a node is made here, once.
-use Rattle.std.specs.Prelude.{ℕ, Bool, true, false, not, cond, ◌&&◌, List, [], ◌∷◌, map, Option, Some, None}
-use Rattle.rhai_base.specs.Value.{Text, UnitV, BoolV, IntV, FloatV, CharV, TextV}
-use Rattle.theory_meaning.specs.Act.{EntryKind, IsVariable, IsConstant, IsAlias, IsExport, Root, OfName, OfThis}
+use Rattle.std.specs.Prelude.{ℕ, Bool, true, false, not, cond, ◌&&◌, List, [], ◌∷◌, map, Option, Some, None, codes}
+use Rattle.rhai_base.specs.Value.{Text, UnitV, BoolV, IntV, FloatV, CharV, TextV, same_text}
+use Rattle.theory_meaning.specs.Act.{EntryKind, IsVariable, IsConstant, IsAlias, IsExport, Root, OfName, OfGlobal, OfThis}
 use Rattle.theory_meaning.specs.Calls.{within}
 use Rattle.theory_meaning.specs.Tree as tree
-use Rattle.theory_meaning.specs.Core.{Callee, OnOperator, Qualified, ByName, ExitKind, Breaking, Continuing, Returning, Throwing, Expr, Ill, Constant, InterpolatedString, ArrayOf, MapOf, Variable, ModuleVariable, ModuleOf, ThisPtr, BlockExpr, FnCall, Chain, And, Or, Coalesce, Exprs, no_exprs, expr, Pairs, no_pairs, pair, Base, OnPlace, OnValue, Step, IllStep, Property, Index, Method, Steps, last, more, Target, IllTarget, Nowhere, ToRoot, ToPart, Guard, Always, When, Arms, no_arms, arm, Deed, IllDeed, Noop, If, Switch, While, Do, For, Assignment, Block, TryCatch, Evaluate, Discard, Leave, Stmt, Var, Does, Stmts, no_stmts, stmt, Function, Script}
+use Rattle.theory_meaning.specs.Core.{Callee, OnOperator, Qualified, ByName, ExitKind, Breaking, Continuing, Returning, Throwing, Expr, Ill, Constant, InterpolatedString, ArrayOf, MapOf, Variable, GlobalVariable, ModuleVariable, ModuleOf, ThisPtr, BlockExpr, FnCall, Chain, And, Or, Coalesce, Exprs, no_exprs, expr, Pairs, no_pairs, pair, Base, OnPlace, OnValue, Step, IllStep, Property, Index, Method, Steps, last, more, Target, IllTarget, Nowhere, ToRoot, ToPart, Guard, Always, When, Arms, no_arms, arm, Deed, IllDeed, Noop, If, Switch, While, Do, For, Assignment, Block, TryCatch, Evaluate, Discard, Leave, Stmt, Var, Does, Stmts, no_stmts, stmt, Function, Script}
 use Rattle.theory_meaning.specs.Shape.{is_unit, is_map, is_chain, is_callable, is_table, is_left_side, catch_name}
 
 -- the names of the namespace and the name, joined by `::`
@@ -12,9 +12,18 @@ abbrev pub qualified : List Text → Text → Text
 qualified [] x = x
 qualified (m ∷ ms) x = within m (qualified ms x)
 
+-- the namespace of the script's own constants
+abbrev pub is_global : Text → Bool
+is_global m = same_text m (codes "global")
+
+abbrev pub in_module : Bool → Text → Text → Expr
+in_module true m x = GlobalVariable x
+in_module false m x = ModuleVariable m x
+
 abbrev pub variable : List Text → Text → Expr
 variable [] x = Variable x
-variable (m ∷ ms) x = ModuleVariable m (qualified ms x)
+variable (m ∷ []) x = in_module (is_global m) m x
+variable (m ∷ n ∷ ns) x = ModuleVariable m (qualified (n ∷ ns) x)
 
 abbrev pub by_name : tree.Callee → List Text → Callee
 by_name c [] = ByName c.name c.captures
@@ -31,8 +40,13 @@ call_of c n es = cond (is_callable c n) (FnCall (callee_by c c.token) es) Ill
 abbrev pub method_of : tree.Callee → ℕ → Exprs → Step
 method_of c n es = cond (is_callable c n) (Method c.name es) IllStep
 
+abbrev pub name_root : List Text → Text → Option Root
+name_root [] x = Some (OfName x)
+name_root (m ∷ []) x = cond (is_global m) (Some (OfGlobal x)) None
+name_root (m ∷ n ∷ ns) x = None
+
 abbrev pub root_of : tree.Expr → Option Root
-root_of (tree.Variable [] x) = Some (OfName x)
+root_of (tree.Variable ns x) = name_root ns x
 root_of tree.ThisPtr = Some OfThis
 root_of _ = None
 

@@ -2,8 +2,8 @@
 use Rattle.std.specs.Prelude.{Bool, true, false, List, [], ◌∷◌, Option, Some, None}
 use Rattle.rhai_base.specs.Value.{Text, Value, UnitV, BoolV, TextV, ArrayV, MapV, values}
 use Rattle.rhai_base.specs.Operators.{Operator}
-use Rattle.theory_meaning.specs.Act.{Exit, Returns, Breaks, Continues, Throws, Leaves, WrongKind, NoPlace, UnknownModule, IsExport, OfName, OfThis, World, Act, Stop, Fail, Read, Resolve, Loop, Scoped, Acts, Only, Named}
-use Rattle.theory_meaning.specs.Core.{ExitKind, Breaking, Continuing, Returning, Throwing, Expr, Ill, Constant, InterpolatedString, ArrayOf, MapOf, Variable, ModuleVariable, ModuleOf, ThisPtr, BlockExpr, FnCall, Chain, And, Or, Coalesce, Exprs, no_exprs, expr, Pairs, no_pairs, pair, Base, OnPlace, OnValue, Step, IllStep, Property, Index, Method, Steps, last, more, Target, IllTarget, Nowhere, ToRoot, ToPart, Guard, Always, When, Arms, no_arms, arm, Deed, IllDeed, Noop, If, Switch, While, Do, For, Assignment, Block, TryCatch, Evaluate, Discard, Leave, Stmt, Var, Does, Stmts, no_stmts, stmt}
+use Rattle.theory_meaning.specs.Act.{Exit, Returns, Breaks, Continues, Throws, Leaves, WrongKind, NoPlace, UnknownModule, IsExport, OfName, OfGlobal, OfThis, World, Act, Stop, Fail, Read, Resolve, Loop, Scoped, Acts, Only, Named}
+use Rattle.theory_meaning.specs.Core.{ExitKind, Breaking, Continuing, Returning, Throwing, Expr, Ill, Constant, InterpolatedString, ArrayOf, MapOf, Variable, GlobalVariable, ModuleVariable, ModuleOf, ThisPtr, BlockExpr, FnCall, Chain, And, Or, Coalesce, Exprs, no_exprs, expr, Pairs, no_pairs, pair, Base, OnPlace, OnValue, Step, IllStep, Property, Index, Method, Steps, last, more, Target, IllTarget, Nowhere, ToRoot, ToPart, Guard, Always, When, Arms, no_arms, arm, Deed, IllDeed, Noop, If, Switch, While, Do, For, Assignment, Block, TryCatch, Evaluate, Discard, Leave, Stmt, Var, Does, Stmts, no_stmts, stmt}
 use Rattle.theory_meaning.specs.ActForms.{give, unit, choose, if_true, ◌>>=◌, then_line, of_constant}
 use Rattle.theory_meaning.specs.Calls.{within, called}
 use Rattle.theory_meaning.specs.Chains.{Access, OfProperty, OfIndex, OfMethod, applied, unless_unit, assign_last, assign_root}
@@ -48,6 +48,7 @@ abbrev mutual
   act w (ArrayOf es) = with_args w es (λ vs. give (ArrayV (values vs)))
   act w (MapOf ps) = with_pairs w ps (λ vs. give (MapV (fields_of vs)))
   act w (Variable x) = Read (OfName x)
+  act w (GlobalVariable x) = Read (OfGlobal x)
   act w (ModuleVariable m x) = Resolve m (λ n. of_constant (w.host.module_value (within n x)))
   act w (ModuleOf e) = act w e >>= λ v. module_at w v
   act w ThisPtr = Read OfThis

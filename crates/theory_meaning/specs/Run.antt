@@ -24,26 +24,30 @@ abbrev pub seen : Bool → List ScopeEntry → List ScopeEntry
 seen true scope = scope
 seen false scope = []
 
+-- a call from a store, in which a list of this scope is run
+abbrev pub called_from : Store → List ScopeEntry → Option Value → Store
+called_from st scope this = record { scope = scope; globals = st.globals; is_own = false; this = this; calls = st.calls }
+
 -- where a body starts; lends: a body may see the scope of a call that captures
-abbrev pub entered : Bool → Function → ScriptCall → List ScopeEntry → List HostCall → Store
-entered lends f a scope calls = record { scope = bind f.params a.arguments (seen (lends && a.captures) scope); this = a.this; calls = calls }
+abbrev pub entered : Bool → Function → ScriptCall → Store → Store
+entered lends f a st = called_from st (bind f.params a.arguments (seen (lends && a.captures) st.scope)) a.this
 
 abbrev pub body_acts : World → Stmts → Acts
 body_acts w ss = Finish (acts w true ss UnitV)
 
-abbrev pub call_body : Bool → World → Env → Option Function → ScriptCall → List ScopeEntry → List HostCall → ℕ → Result
-call_body lends w env None a scope calls t = At (Halted (IsStuck Unbound)) (record { scope = []; this = None; calls = calls }) t
-call_body lends w env (Some f) a scope calls t =
-    with_turn t (entered lends f a scope calls) (λ st t1. run_all w env (body_acts w f.body) st t1)
+abbrev pub call_body : Bool → World → Env → Option Function → ScriptCall → Store → ℕ → Result
+call_body lends w env None a st t = At (Halted (IsStuck Unbound)) (called_from st [] None) t
+call_body lends w env (Some f) a st t =
+    with_turn t (entered lends f a st) (λ st1 t1. run_all w env (body_acts w f.body) st1 t1)
 
 -- calls nest at most so deep
-abbrev pub invoke_at : Bool → World → List Function → ℕ → ScriptCall → List ScopeEntry → List HostCall → ℕ → Result
-invoke_at lends w fs zero a scope calls t = At (Halted OutOfTurns) (record { scope = []; this = None; calls = calls }) t
-invoke_at lends w fs (suc d) a scope calls t =
-    call_body lends w (record { rounds = d; invoke = λ a1 s1 c1 t1. invoke_at lends w fs d a1 s1 c1 t1 }) (function_of fs a.function) a scope calls t
+abbrev pub invoke_at : Bool → World → List Function → ℕ → ScriptCall → Store → ℕ → Result
+invoke_at lends w fs zero a st t = At (Halted OutOfTurns) (called_from st [] None) t
+invoke_at lends w fs (suc d) a st t =
+    call_body lends w (record { rounds = d; invoke = λ a1 st1 t1. invoke_at lends w fs d a1 st1 t1 }) (function_of fs a.function) a st t
 
 abbrev pub env_at : Bool → World → List Function → ℕ → Env
-env_at lends w fs d = record { rounds = d; invoke = λ a1 s1 c1 t1. invoke_at lends w fs d a1 s1 c1 t1 }
+env_at lends w fs d = record { rounds = d; invoke = λ a1 st1 t1. invoke_at lends w fs d a1 st1 t1 }
 
 abbrev pub world_of : Engine → Host → List Function → World
 world_of engine host fs = record { engine = engine; host = host; functions = map key_of fs }
@@ -53,12 +57,16 @@ pub data EntryPoint : Type 0 where
   AtStatements : EntryPoint
   AtFunction : Key → Option Value → List Value → EntryPoint
 
+-- where the script's own list starts
+abbrev pub started : List ScopeEntry → Store
+started scope = record { scope = scope; globals = []; is_own = true; this = None; calls = [] }
+
 -- A run with n turns: no more than n rounds and n calls, one within another, can begin, so that the depth is never used up first.
 abbrev pub run_at : Bool → World → Script → EntryPoint → List ScopeEntry → ℕ → Result
 run_at lends w s AtStatements scope n =
-    run_all w (env_at lends w s.functions n) (body_acts w s.statements) (record { scope = scope; this = None; calls = [] }) n
+    run_all w (env_at lends w s.functions n) (body_acts w s.statements) (started scope) n
 run_at lends w s (AtFunction k this vs) scope n =
-    call_body lends w (env_at lends w s.functions n) (function_of s.functions k) (record { function = k; captures = false; this = this; arguments = vs }) [] [] n
+    call_body lends w (env_at lends w s.functions n) (function_of s.functions k) (record { function = k; captures = false; this = this; arguments = vs }) (started []) n
 
 unfoldable pub run_script : Engine → Host → Script → EntryPoint → List ScopeEntry → ℕ → Result
 run_script engine host s e scope n = run_at true (world_of engine host s.functions) s e scope n

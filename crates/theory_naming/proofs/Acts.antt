@@ -3,8 +3,8 @@ use Rattle.std.proofs.Common.{◌≡◌, ℕ, zero, suc, ◌+◌, ◌-◌, ℤ, 
 use Rattle.std.specs.Prelude.{option_map, codes, slice_get, ◌||◌, if◌then◌else◌, pos, ◌+ℤ◌, ◌^◌, nat_lt}
 use Rattle.rhai_base.specs.Value.{Text, Value, TextV, same_text, type_name, holds_float, text_of, PointerV, values}
 use Rattle.theory_meaning.specs.Engine.{Engine, constant_named, has_override, is_open, built_in, has_entry, assigning, mapped_name, mapped_type_name}
-use Rattle.theory_meaning.specs.Act.{EntryKind, IsConstant, ScopeEntry, is_constant, is_name, HostCall, Answer, Host, Key, World, Store, Stuck, IsStuck, Unbound, WriteToConstant, UnboundThis, Again, Ending, Leaves, Root, OfName, OfThis, ScriptCall, Act, Stop, Fail, Then, Turn, Read, Write, Resolve, AskHost, Invoke, Loop, Scoped, Acts, Only, Do, Named, Finish, Env, found, resolved, read, read_this, write_at, write, write_this, rounds, run, run_all, IsVariable, WrongKind, NoPlace, UnknownModule, CounterTooLarge, IsExport}
-use Rattle.theory_naming.specs.Naming.{OptionOf, both_none, both_some, ListOf, both_empty, both_more, Like, unit_like, bool_like, int_like, float_like, char_like, text_like, array_like, map_like, pointer_like, range_like, inclusive_like, Likes, MaybeLike, EntryLike, entry_like, HostName, CallLike, call_like, AnswerLike, answers_like, throws_like, HostLike, StoreLike, ExitLike, returns_like, breaks_like, continues_like, throw_like, again_like, EndingLike, gives_like, leaves_like, ended_like, halted_like, ResultLike, at_like, KeyLike, ScriptCallLike, script_call_like, as_it_is, as_a_function, key_like, ComputedLike, no_entry_like, is_like, overflows_like, CurrentLike, current_like, AccessLike, of_property_like, of_index_like, of_method_like, CalleeLike, operator_like, qualified_like, by_name_like, IsFn, Total, none_like, no_fields_like, PairLike, named_like, ExprLike, ill_like, constant_like, interpolated_like, array_of_like, map_of_like, variable_like, module_variable_like, module_of_like, this_like, block_expr_like, call_expr_like, fn_like, chain_like, and_like, or_like, coalesce_like, ExprsLike, no_exprs_like, expr_like, PairsLike, no_pairs_like, pair_like, BaseLike, on_place_like, on_value_like, StepLike, ill_step_like, property_like, index_like, method_like, StepsLike, last_like, more_like, TargetLike, ill_target_like, nowhere_like, to_root_like, to_part_like, GuardLike, always_like, when_like, ArmsLike, no_arms_like, arm_like, unlisted_like, DeedLike, ill_deed_like, noop_like, if_deed_like, switch_like, while_like, do_like, for_like, assignment_like, block_like, try_like, evaluate_like, discard_like, leave_like, StmtLike, var_like, does_like, StmtsLike, no_stmts_like, stmt_like}
+use Rattle.theory_meaning.specs.Act.{EntryKind, IsConstant, ScopeEntry, is_constant, is_name, HostCall, Answer, Host, Key, World, Store, Stuck, IsStuck, Unbound, WriteToConstant, UnboundThis, Again, Ending, Leaves, Root, OfName, OfGlobal, OfThis, ScriptCall, Act, Stop, Fail, Then, Turn, Read, Write, Resolve, AskHost, Invoke, Loop, Scoped, Acts, Only, Do, Named, Finish, Env, found, resolved, read, read_global, read_this, write_at, write, write_global, write_this, rounds, run, run_all, IsVariable, WrongKind, NoPlace, UnknownModule, CounterTooLarge, IsExport}
+use Rattle.theory_naming.specs.Naming.{OptionOf, both_none, both_some, ListOf, both_empty, both_more, Like, unit_like, bool_like, int_like, float_like, char_like, text_like, array_like, map_like, pointer_like, range_like, inclusive_like, Likes, MaybeLike, EntryLike, entry_like, HostName, CallLike, call_like, AnswerLike, answers_like, throws_like, HostLike, StoreLike, ExitLike, returns_like, breaks_like, continues_like, throw_like, again_like, EndingLike, gives_like, leaves_like, ended_like, halted_like, ResultLike, at_like, KeyLike, ScriptCallLike, script_call_like, as_it_is, as_a_function, key_like, ComputedLike, no_entry_like, is_like, overflows_like, CurrentLike, current_like, AccessLike, of_property_like, of_index_like, of_method_like, CalleeLike, operator_like, qualified_like, by_name_like, IsFn, Total, none_like, no_fields_like, PairLike, named_like, ExprLike, ill_like, constant_like, interpolated_like, array_of_like, map_of_like, variable_like, global_variable_like, module_variable_like, module_of_like, this_like, block_expr_like, call_expr_like, fn_like, chain_like, and_like, or_like, coalesce_like, ExprsLike, no_exprs_like, expr_like, PairsLike, no_pairs_like, pair_like, BaseLike, on_place_like, on_value_like, StepLike, ill_step_like, property_like, index_like, method_like, StepsLike, last_like, more_like, TargetLike, ill_target_like, nowhere_like, to_root_like, to_part_like, GuardLike, always_like, when_like, ArmsLike, no_arms_like, arm_like, unlisted_like, DeedLike, ill_deed_like, noop_like, if_deed_like, switch_like, while_like, do_like, for_like, assignment_like, block_like, try_like, evaluate_like, discard_like, leave_like, StmtLike, var_like, does_like, StmtsLike, no_stmts_like, stmt_like}
 use Rattle.theory_naming.proofs.Values.{float_kept, length_kept, append_like, if_like, map_both, type_kept, types_kept, unit_kept, truth_kept, items_like, values_like, element_like, entry_kept, along_like, with_along_like, character_like, bit_like, chosen_kept, same_kept, with_entries_like}
 use Rattle.base_tokens.specs.Names.{is_valid_name}
 use Rattle.rhai_base.specs.Operators.{Operator, Computed, NoEntry, symbol, computed, is_range}
@@ -20,7 +20,7 @@ use Rattle.theory_meaning.specs.Shape.{names_arm}
 use Rattle.theory_meaning.specs.Tree.{PropertyNames, SwitchTable}
 use Rattle.theory_meaning.specs.Walk.{listed, arm_of_default}
 use Rattle.theory_naming.proofs.Listed.{AreListed, chosen_listed, default_listed, next_named, first_named, not_named}
-use Rattle.theory_naming.proofs.Scopes.{resolved_kept, or_found, put_like, then_like, turn_like, leave_like', called_like, returned_like, rounds_like}
+use Rattle.theory_naming.proofs.Scopes.{bound_like, declared_like, inside_like, resolved_kept, or_found, put_like, then_like, turn_like, leave_like', called_like, returned_like, rounds_like}
 
 module _ (N : Text → Text → Type 0) (engine : Engine) (known : (x : Text) → MaybeLike N (constant_named engine.constants x) (constant_named engine.constants x)) (h h' : Host) (hosts : HostLike N h h') (ks ls : List Key) where
   abbrev pub w : World
@@ -41,6 +41,10 @@ module _ (N : Text → Text → Type 0) (engine : Engine) (known : (x : Text) �
   read_like both_none q t = at_like t (halted_like (IsStuck Unbound)) q
   read_like (both_some (entry_like x k h)) q t = at_like t (ended_like (gives_like h)) q
 
+  read_global_like : {o p : Option Value} → MaybeLike N o p → {s s' : Store} → StoreLike N s s' → (t : ℕ) → ResultLike N (read_global o s t) (read_global p s' t)
+  read_global_like both_none q t = at_like t (halted_like (IsStuck Unbound)) q
+  read_global_like (both_some h) q t = at_like t (ended_like (gives_like h)) q
+
   read_this_like : {o p : Option Value} → MaybeLike N o p → {s s' : Store} → StoreLike N s s' → (t : ℕ) → ResultLike N (read_this o s t) (read_this p s' t)
   read_this_like both_none q t = at_like t (halted_like (IsStuck UnboundThis)) q
   read_this_like (both_some h) q t = at_like t (ended_like (gives_like h)) q
@@ -48,21 +52,26 @@ module _ (N : Text → Text → Type 0) (engine : Engine) (known : (x : Text) �
   write_at_like : (must b : Bool) (x : Text) {v v' : Value} → Like N v v' → {s s' : Store} → StoreLike N s s' → (t : ℕ) → ResultLike N (write_at must b x v s t) (write_at must b x v' s' t)
   write_at_like true true x h q t = at_like t (halted_like (IsStuck WriteToConstant)) q
   write_at_like false true x h q t = at_like t (ended_like (gives_like unit_like)) q
-  write_at_like true false x h q t = at_like t (ended_like (gives_like unit_like)) (record { scope = put_like q.scope x h; this = q.this; calls = q.calls })
-  write_at_like false false x h q t = at_like t (ended_like (gives_like unit_like)) (record { scope = put_like q.scope x h; this = q.this; calls = q.calls })
+  write_at_like true false x h q t = at_like t (ended_like (gives_like unit_like)) (record { scope = put_like q.scope x h; globals = q.globals; own = q.own; this = q.this; calls = q.calls })
+  write_at_like false false x h q t = at_like t (ended_like (gives_like unit_like)) (record { scope = put_like q.scope x h; globals = q.globals; own = q.own; this = q.this; calls = q.calls })
 
   write_like : (must : Bool) {o p : Option ScopeEntry} → OptionOf (EntryLike N) o p → (x : Text) {v v' : Value} → Like N v v' → {s s' : Store} → StoreLike N s s' → (t : ℕ) → ResultLike N (write must o x v s t) (write must p x v' s' t)
   write_like must both_none x h q t = at_like t (halted_like (IsStuck Unbound)) q
   write_like must (both_some (entry_like y k j)) x h q t = write_at_like must (is_constant k) x h q t
 
+  write_global_like : (must : Bool) {o p : Option Value} → MaybeLike N o p → {s s' : Store} → StoreLike N s s' → (t : ℕ) → ResultLike N (write_global must o s t) (write_global must p s' t)
+  write_global_like must both_none q t = at_like t (halted_like (IsStuck Unbound)) q
+  write_global_like true (both_some h) q t = at_like t (halted_like (IsStuck WriteToConstant)) q
+  write_global_like false (both_some h) q t = at_like t (ended_like (gives_like unit_like)) q
+
   write_this_like : {o p : Option Value} → MaybeLike N o p → {v v' : Value} → Like N v v' → {s s' : Store} → StoreLike N s s' → (t : ℕ) → ResultLike N (write_this o v s t) (write_this p v' s' t)
   write_this_like both_none h q t = at_like t (halted_like (IsStuck UnboundThis)) q
-  write_this_like (both_some j) h q t = at_like t (ended_like (gives_like unit_like)) (record { scope = q.scope; this = both_some h; calls = q.calls })
+  write_this_like (both_some j) h q t = at_like t (ended_like (gives_like unit_like)) (record { scope = q.scope; globals = q.globals; own = q.own; this = both_some h; calls = q.calls })
 
   -- a script call, at each depth
   pub record EnvLike (env env' : Env) : Type 0 where
     pub rounds : env.rounds ≡ env'.rounds
-    pub invoke : (a b : ScriptCall) → ScriptCallLike N a b → (es fs : List ScopeEntry) → ListOf (EntryLike N) es fs → (cs ds : List HostCall) → ListOf (CallLike N) cs ds → (t : ℕ) → ResultLike N (env.invoke a es cs t) (env'.invoke b fs ds t)
+    pub invoke : (a b : ScriptCall) → ScriptCallLike N a b → (s s' : Store) → StoreLike N s s' → (t : ℕ) → ResultLike N (env.invoke a s t) (env'.invoke b s' t)
 
   module _ (env env' : Env) (envs : EnvLike env env') where
     pub record R (a b : Act) : Type 0 where
@@ -85,26 +94,28 @@ module _ (N : Text → Text → Type 0) (engine : Engine) (known : (x : Text) �
 
     pub r_read : (r : Root) → R (Read r) (Read r)
     r_read (OfName x) = record { at = λ s s' q t. read_like (found_like q.scope x) q t }
+    r_read (OfGlobal x) = record { at = λ s s' q t. read_global_like (bound_like q.globals x) q t }
     r_read OfThis = record { at = λ s s' q t. read_this_like q.this q t }
 
     pub r_write : (must : Bool) (r : Root) {v v' : Value} → Like N v v' → R (Write must r v) (Write must r v')
     r_write must (OfName x) h = record { at = λ s s' q t. write_like must (found_like q.scope x) x h q t }
+    r_write must (OfGlobal x) h = record { at = λ s s' q t. write_global_like must (bound_like q.globals x) q t }
     r_write must OfThis h = record { at = λ s s' q t. write_this_like q.this h q t }
 
     pub r_resolve : (a : Text) (f f' : Text → Act) → ((m : Text) → R (f m) (f' m)) → R (Resolve a f) (Resolve a f')
     r_resolve a f f' k = record { at = λ s s' q t. subst (λ m. ResultLike N (run w env (f (resolved s.scope a)) s t) (run w' env' (f' m) s' t)) (resolved_kept q.scope a) ((k (resolved s.scope a)).at s s' q t) }
 
     pub r_ask : {c d : HostCall} → CallLike N c d → (f f' : Answer → Act) → ((a b : Answer) → AnswerLike N a b → R (f a) (f' b)) → R (AskHost c f) (AskHost d f')
-    r_ask {c = c} {d = d} h f f' k = record { at = λ s s' q t. (k _ _ (hosts.answer s.calls s'.calls c d q.calls h)).at _ _ (record { scope = q.scope; this = q.this; calls = append_like q.calls (both_more h both_empty) }) t }
+    r_ask {c = c} {d = d} h f f' k = record { at = λ s s' q t. (k _ _ (hosts.answer s.calls s'.calls c d q.calls h)).at _ _ (record { scope = q.scope; globals = q.globals; own = q.own; this = q.this; calls = append_like q.calls (both_more h both_empty) }) t }
 
     pub r_invoke : {a b : ScriptCall} → ScriptCallLike N a b → (f f' : Value → Option Value → Act) → ((v v' : Value) → Like N v v' → (o p : Option Value) → MaybeLike N o p → R (f v o) (f' v' p)) → R (Invoke a f) (Invoke b f')
-    r_invoke {a = a} {b = b} h f f' k = record { at = λ s s' q t. called_like q (envs.invoke a b h _ _ q.scope _ _ q.calls t) _ _ (λ v v' j o p l s1 s2 q1 t1. (k v v' j o p l).at s1 s2 q1 t1) }
+    r_invoke {a = a} {b = b} h f f' k = record { at = λ s s' q t. called_like q (envs.invoke a b h _ _ q t) _ _ (λ v v' j o p l s1 s2 q1 t1. (k v v' j o p l).at s1 s2 q1 t1) }
 
     pub r_loop : {a b : Act} → R a b → R (Loop a) (Loop b)
     r_loop {a = a} {b = b} h = record { at = λ s s' q t. subst (λ n. ResultLike N (rounds env.rounds (run w env a) s t) (rounds n (run w' env' b) s' t)) envs.rounds (rounds_like env.rounds _ _ (λ s1 s2 q1 t1. h.at s1 s2 q1 t1) q t) }
 
     pub r_scoped : {p q : Acts} → Rs p q → R (Scoped p) (Scoped q)
-    r_scoped h = record { at = λ s s' q t. leave_like' q.scope (h.at s s' q t) }
+    r_scoped h = record { at = λ s s' q t. leave_like' q (h.at _ _ (inside_like q) t) }
 
     pub r_only : {a b : Act} → R a b → Rs (Only a) (Only b)
     r_only h = record { at = λ s s' q t. h.at s s' q t }
@@ -113,7 +124,7 @@ module _ (N : Text → Text → Type 0) (engine : Engine) (known : (x : Text) �
     r_do h f f' k = record { at = λ s s' q t. then_like (h.at s s' q t) _ _ (λ e e' j s1 s2 q1 t1. (k e e' j).at s1 s2 q1 t1) }
 
     pub r_named : (x : Text) (k : EntryKind) {v v' : Value} → Like N v v' → {p q : Acts} → Rs p q → Rs (Named x k v p) (Named x k v' q)
-    r_named x k j h = record { at = λ s s' q t. h.at _ _ (record { scope = both_more (entry_like x k j) q.scope; this = q.this; calls = q.calls }) t }
+    r_named x k j h = record { at = λ s s' q t. h.at _ _ (declared_like x k j q) t }
 
     pub r_finish : {p q : Acts} → Rs p q → Rs (Finish p) (Finish q)
     r_finish h = record { at = λ s s' q t. returned_like (h.at s s' q t) }
@@ -659,6 +670,7 @@ module _ (N : Text → Text → Type 0) (engine : Engine) (known : (x : Text) �
         r_act (variable_like x) = r_read (OfName x)
         r_act (module_variable_like m x) = r_resolve m _ _ (λ n. r_of_constant (hosts.value (within n x)))
         r_act (module_of_like h) = r_bind (r_act h) _ _ (λ v v' j. r_module j)
+        r_act (global_variable_like x) = r_read (OfGlobal x)
         r_act this_like = r_read OfThis
         r_act (block_expr_like h) = r_scoped (r_acts true h unit_like)
         r_act (call_expr_like c n h) = r_args h _ _ (λ vs ws j. r_called c n j)

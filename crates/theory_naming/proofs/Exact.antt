@@ -2,8 +2,9 @@
 -- function that no name stands for.
 use Rattle.std.proofs.Common.{◌≡◌, List, ◌∷◌, Option, Some, refl, ap}
 use Rattle.rhai_base.specs.Value.{Text, Value, ArrayV, MapV, PointerV, Values, item, Fields, field}
+use Rattle.theory_meaning.specs.Engine.{Binding}
 use Rattle.theory_meaning.specs.Act.{ScopeEntry, HostCall, Store, Exit, Returns, Breaks, Throws, Ending, Gives, Leaves, Outcome, Ended, Result, At}
-use Rattle.theory_naming.specs.Naming.{OptionOf, both_none, both_some, ListOf, both_empty, both_more, Like, unit_like, bool_like, int_like, float_like, char_like, text_like, array_like, map_like, pointer_like, range_like, inclusive_like, LikeAll, none_like, item_like, LikeFields, no_fields_like, field_like, EntryLike, entry_like, HostName, as_it_is, as_a_function, CallLike, call_like, StoreLike, ExitLike, returns_like, breaks_like, continues_like, throw_like, again_like, EndingLike, gives_like, leaves_like, OutcomeLike, ended_like, halted_like, ResultLike, at_like}
+use Rattle.theory_naming.specs.Naming.{OptionOf, both_none, both_some, ListOf, both_empty, both_more, Like, unit_like, bool_like, int_like, float_like, char_like, text_like, array_like, map_like, pointer_like, range_like, inclusive_like, LikeAll, none_like, item_like, LikeFields, no_fields_like, field_like, EntryLike, entry_like, HostName, as_it_is, as_a_function, CallLike, call_like, BindingLike, binding_like, StoreLike, ExitLike, returns_like, breaks_like, continues_like, throw_like, again_like, EndingLike, gives_like, leaves_like, OutcomeLike, ended_like, halted_like, ResultLike, at_like}
 
 pub list_equal : {A : Type 0} {R : A → A → Type 0} → ((a b : A) → R a b → a ≡ b) → (xs ys : List A) → ListOf R xs ys → xs ≡ ys
 list_equal q _ _ both_empty = refl
@@ -39,6 +40,9 @@ module _ (N : Text → Text → Type 0) (equal : (f g : Text) → N f g → f �
   entry_equal : (e f : ScopeEntry) → EntryLike N e f → e ≡ f
   entry_equal _ _ (entry_like x k {v = v} {w = w} h) = λ i. record { name = x; kind = k; value = value_equal v w h i }
 
+  binding_equal : (b c : Binding) → BindingLike N b c → b ≡ c
+  binding_equal _ _ (binding_like x {v = v} {w = w} h) = λ i. record { name = x; value = value_equal v w h i }
+
   host_name_equal : (f g : Text) → HostName N f g → f ≡ g
   host_name_equal _ _ (as_it_is f) = refl
   host_name_equal _ _ (as_a_function {f = f} {g = g} n) = equal f g n
@@ -48,7 +52,7 @@ module _ (N : Text → Text → Type 0) (equal : (f g : Text) → N f g → f �
       λ i. record { name = host_name_equal f g n i; receiver = option_equal value_equal o p h i; arguments = list_equal value_equal vs ws k i }
 
   store_equal : (s s' : Store) → StoreLike N s s' → s ≡ s'
-  store_equal s s' h = λ i. record { scope = list_equal entry_equal s.scope s'.scope h.scope i; this = option_equal value_equal s.this s'.this h.this i; calls = list_equal call_equal s.calls s'.calls h.calls i }
+  store_equal s s' h = λ i. record { scope = list_equal entry_equal s.scope s'.scope h.scope i; globals = list_equal binding_equal s.globals s'.globals h.globals i; is_own = h.own i; this = option_equal value_equal s.this s'.this h.this i; calls = list_equal call_equal s.calls s'.calls h.calls i }
 
   exit_equal : (x y : Exit) → ExitLike N x y → x ≡ y
   exit_equal _ _ (returns_like {v = v} {w = w} h) = ap Returns (value_equal v w h)

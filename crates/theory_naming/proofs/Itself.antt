@@ -4,10 +4,10 @@ use Rattle.std.specs.Prelude.{codes, ◌++◌}
 use Rattle.rhai_base.specs.Value.{Text, Value, UnitV, BoolV, IntV, FloatV, CharV, TextV, ArrayV, MapV, PointerV, RangeV, RangeInclusiveV, Values, no_values, item, Fields, no_fields, field, same_text, shown, form, inner}
 use Rattle.theory_meaning.specs.Engine.{Engine, constant_named}
 use Rattle.theory_meaning.specs.Act.{ScopeEntry, Answer, Answers, AnswersThrow, Host, Key}
-use Rattle.theory_meaning.specs.Core.{Callee, OnOperator, Qualified, ByName, Expr, Ill, Constant, InterpolatedString, ArrayOf, MapOf, Variable, ModuleVariable, ModuleOf, ThisPtr, BlockExpr, FnCall, Chain, And, Or, Coalesce, Exprs, no_exprs, expr, Pairs, no_pairs, pair, Base, OnPlace, OnValue, Step, IllStep, Property, Index, Method, Steps, last, more, Target, IllTarget, Nowhere, ToRoot, ToPart, Guard, Always, When, Arms, no_arms, arm, Deed, IllDeed, Noop, If, Switch, While, Do, For, Assignment, Block, TryCatch, Evaluate, Discard, Leave, Stmt, Var, Does, Stmts, no_stmts, stmt, Function, Script}
+use Rattle.theory_meaning.specs.Core.{Callee, OnOperator, Qualified, ByName, Expr, Ill, Constant, InterpolatedString, ArrayOf, MapOf, Variable, GlobalVariable, ModuleVariable, ModuleOf, ThisPtr, BlockExpr, FnCall, Chain, And, Or, Coalesce, Exprs, no_exprs, expr, Pairs, no_pairs, pair, Base, OnPlace, OnValue, Step, IllStep, Property, Index, Method, Steps, last, more, Target, IllTarget, Nowhere, ToRoot, ToPart, Guard, Always, When, Arms, no_arms, arm, Deed, IllDeed, Noop, If, Switch, While, Do, For, Assignment, Block, TryCatch, Evaluate, Discard, Leave, Stmt, Var, Does, Stmts, no_stmts, stmt, Function, Script}
 use Rattle.theory_meaning.specs.Walk.{listed}
 use Rattle.theory_meaning.specs.Run.{EntryPoint, AtStatements, AtFunction, function_of, run_script}
-use Rattle.theory_naming.specs.Naming.{OptionOf, both_none, both_some, ListOf, both_empty, both_more, Like, unit_like, bool_like, int_like, float_like, char_like, text_like, array_like, map_like, pointer_like, range_like, inclusive_like, LikeAll, none_like, item_like, LikeFields, no_fields_like, field_like, MaybeLike, EntryLike, entry_like, AnswerLike, answers_like, throws_like, HostLike, KeyLike, key_like, CalleeLike, operator_like, qualified_like, by_name_like, ExprLike, ill_like, constant_like, interpolated_like, array_of_like, map_of_like, variable_like, module_variable_like, module_of_like, this_like, block_expr_like, call_expr_like, chain_like, and_like, or_like, coalesce_like, ExprsLike, no_exprs_like, expr_like, PairsLike, no_pairs_like, pair_like, BaseLike, on_place_like, on_value_like, StepLike, ill_step_like, property_like, index_like, method_like, StepsLike, last_like, more_like, TargetLike, ill_target_like, nowhere_like, to_root_like, to_part_like, GuardLike, always_like, when_like, ArmsLike, no_arms_like, arm_like, DeedLike, ill_deed_like, noop_like, if_deed_like, switch_like, while_like, do_like, for_like, assignment_like, block_like, try_like, evaluate_like, discard_like, leave_like, StmtLike, var_like, does_like, StmtsLike, no_stmts_like, stmt_like, FunctionLike, function_like, ScriptLike, EntryPointLike, at_statements_like, at_function_like}
+use Rattle.theory_naming.specs.Naming.{OptionOf, both_none, both_some, ListOf, both_empty, both_more, Like, unit_like, bool_like, int_like, float_like, char_like, text_like, array_like, map_like, pointer_like, range_like, inclusive_like, LikeAll, none_like, item_like, LikeFields, no_fields_like, field_like, MaybeLike, EntryLike, entry_like, AnswerLike, answers_like, throws_like, HostLike, KeyLike, key_like, CalleeLike, operator_like, qualified_like, by_name_like, ExprLike, ill_like, constant_like, interpolated_like, array_of_like, map_of_like, variable_like, global_variable_like, module_variable_like, module_of_like, this_like, block_expr_like, call_expr_like, chain_like, and_like, or_like, coalesce_like, ExprsLike, no_exprs_like, expr_like, PairsLike, no_pairs_like, pair_like, BaseLike, on_place_like, on_value_like, StepLike, ill_step_like, property_like, index_like, method_like, StepsLike, last_like, more_like, TargetLike, ill_target_like, nowhere_like, to_root_like, to_part_like, GuardLike, always_like, when_like, ArmsLike, no_arms_like, arm_like, DeedLike, ill_deed_like, noop_like, if_deed_like, switch_like, while_like, do_like, for_like, assignment_like, block_like, try_like, evaluate_like, discard_like, leave_like, StmtLike, var_like, does_like, StmtsLike, no_stmts_like, stmt_like, FunctionLike, function_like, ScriptLike, EntryPointLike, at_statements_like, at_function_like}
 use Rattle.theory_naming.proofs.Runs.{names_do_not_matter}
 use Rattle.theory_naming.proofs.Exact.{list_equal, value_equal, call_equal, result_equal}
 use Rattle.theory_naming.proofs.Operators.{computed_like}
@@ -74,6 +74,7 @@ mutual
   expr_itself (ArrayOf es) = array_of_like (exprs_itself es)
   expr_itself (MapOf ps) = map_of_like (pairs_itself ps)
   expr_itself (Variable x) = variable_like x
+  expr_itself (GlobalVariable x) = global_variable_like x
   expr_itself (ModuleVariable m x) = module_variable_like m x
   expr_itself (ModuleOf e) = module_of_like (expr_itself e)
   expr_itself ThisPtr = this_like

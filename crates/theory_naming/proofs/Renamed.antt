@@ -7,7 +7,7 @@ use Rattle.rhai_base.specs.Value.{Text, Value, UnitV, BoolV, IntV, FloatV, CharV
 use Rattle.theory_meaning.specs.Act.{Root}
 use Rattle.theory_meaning.specs.Calls.{Word, ToHost, TypeOf, IsShared, Fn, Curry, CallFn, NoWord, word}
 use Rattle.theory_meaning.specs.Core as core
-use Rattle.theory_meaning.specs.Desugar.{break_kind, return_kind, callee_by, by_name, call_of, method_of, name_kind, or_own, root_of, based, ends_in_call, part_target, name_target, guard_by, try_by, alias, variable, qualified, core_expr, core_exprs, core_pairs, core_arms, core_maybe, core_stmt, core_stmts, core_function, member_of, steps_of, target_of}
+use Rattle.theory_meaning.specs.Desugar.{break_kind, return_kind, callee_by, by_name, call_of, method_of, name_kind, or_own, root_of, based, ends_in_call, part_target, name_target, guard_by, try_by, alias, variable, qualified, core_expr, core_exprs, core_pairs, core_arms, core_maybe, core_stmt, core_stmts, core_function, member_of, steps_of, target_of, is_global, in_module}
 use Rattle.theory_meaning.specs.Plain.{all_true}
 use Rattle.theory_meaning.specs.Shape.{is_unit, is_callable, is_map, are_distinct, are_among, is_table, is_left_side, is_member, is_argument, is_rest, is_chain, is_true, condition_at, names_arm, keys, catch_name, case_fits, spares, default_fits}
 use Rattle.theory_meaning.specs.Tree as tree
@@ -15,7 +15,7 @@ use Rattle.theory_meaning.specs.Walk.{over_expr, over_exprs, over_pairs, over_ma
 use Rattle.theory_meaning.proofs.PureTrees.{split}
 use Rattle.std.specs.Cmp.{unsigned_Decides}
 use Rattle.theory_naming.proofs.Listed.{first_named, next_named, here_named, later_named, from_first}
-use Rattle.theory_naming.specs.Naming.{Like, unit_like, bool_like, int_like, float_like, char_like, text_like, array_like, map_like, pointer_like, range_like, inclusive_like, LikeAll, none_like, item_like, LikeFields, no_fields_like, field_like, CalleeLike, operator_like, qualified_like, by_name_like, IsFn, Total, ExprLike, ill_like, constant_like, interpolated_like, array_of_like, map_of_like, variable_like, module_variable_like, module_of_like, this_like, block_expr_like, call_expr_like, fn_like, chain_like, and_like, or_like, coalesce_like, ExprsLike, no_exprs_like, expr_like, PairsLike, no_pairs_like, pair_like, BaseLike, on_place_like, on_value_like, StepLike, ill_step_like, property_like, index_like, method_like, StepsLike, last_like, more_like, TargetLike, ill_target_like, nowhere_like, to_root_like, to_part_like, GuardLike, always_like, when_like, ArmsLike, no_arms_like, arm_like, unlisted_like, DeedLike, ill_deed_like, noop_like, if_deed_like, switch_like, while_like, do_like, for_like, assignment_like, block_like, try_like, evaluate_like, discard_like, leave_like, StmtLike, var_like, does_like, StmtsLike, no_stmts_like, stmt_like, FunctionLike, function_like}
+use Rattle.theory_naming.specs.Naming.{Like, unit_like, bool_like, int_like, float_like, char_like, text_like, array_like, map_like, pointer_like, range_like, inclusive_like, LikeAll, none_like, item_like, LikeFields, no_fields_like, field_like, CalleeLike, operator_like, qualified_like, by_name_like, IsFn, Total, ExprLike, ill_like, constant_like, interpolated_like, array_of_like, map_of_like, variable_like, global_variable_like, module_variable_like, module_of_like, this_like, block_expr_like, call_expr_like, fn_like, chain_like, and_like, or_like, coalesce_like, ExprsLike, no_exprs_like, expr_like, PairsLike, no_pairs_like, pair_like, BaseLike, on_place_like, on_value_like, StepLike, ill_step_like, property_like, index_like, method_like, StepsLike, last_like, more_like, TargetLike, ill_target_like, nowhere_like, to_root_like, to_part_like, GuardLike, always_like, when_like, ArmsLike, no_arms_like, arm_like, unlisted_like, DeedLike, ill_deed_like, noop_like, if_deed_like, switch_like, while_like, do_like, for_like, assignment_like, block_like, try_like, evaluate_like, discard_like, leave_like, StmtLike, var_like, does_like, StmtsLike, no_stmts_like, stmt_like, FunctionLike, function_like}
 use Rattle.theory_naming.specs.Renaming.{Stands, is_anonymous, names_one, call_by_name, calls_by_name, renamed_value, renamed_values, renamed_fields, renamed_expr, renamed_exprs, renamed_pairs, renamed_maybe, renamed_arms, renamed_stmt, renamed_stmts, renamed_function}
 
 -- ---- `Fn` among the words
@@ -244,7 +244,11 @@ module _ (named : Text → Text) (own : (t : Text) → is_anonymous t ≡ false 
 
   variable_by : (ms : List Text) (x : Text) → ExprLike N (variable ms x) (variable ms x)
   variable_by [] x = variable_like x
-  variable_by (m ∷ ms) x = module_variable_like m (qualified ms x)
+  variable_by (m ∷ []) x = in_module_by (is_global m) where
+    in_module_by : (b : Bool) → ExprLike N (in_module b m x) (in_module b m x)
+    in_module_by true = global_variable_like x
+    in_module_by false = module_variable_like m x
+  variable_by (m ∷ n ∷ ms) x = module_variable_like m (qualified (n ∷ ms) x)
 
   target_kept : {b b' : Bool} {o o' : Option Root} {call call' : Bool} {ps qs : core.Steps} → b ≡ b' → o ≡ o' → call ≡ call' → StepsLike N ps qs → TargetLike N (cond b (part_target o call ps) core.IllTarget) (cond b' (part_target o' call' qs) core.IllTarget)
   target_kept {b = b} {o = o} {call = call} {ps = ps} {qs = qs} p q r h = subst (λ t. TargetLike N (cond b (part_target o call ps) core.IllTarget) t) (λ i. cond (p i) (part_target (q i) (r i) qs) core.IllTarget) (target_by b o call h)

@@ -1,9 +1,11 @@
 -- Scopes, modules and stores that are alike but for names, and what is done with outcomes.
-use Rattle.std.proofs.Common.{◌≡◌, ℕ, zero, suc, ◌-◌, Bool, true, false, cond, ◌&&◌, List, length, drop, Option, Some, refl, subst}
+use Rattle.std.proofs.Common.{◌≡◌, ℕ, zero, suc, ◌-◌, Bool, true, false, cond, ◌&&◌, List, [], ◌∷◌, ◌++◌, length, drop, Option, Some, None, refl, subst}
+use Rattle.std.specs.Prelude.{if◌then◌else◌}
 use Rattle.rhai_base.specs.Value.{Text, Value, same_text}
-use Rattle.theory_meaning.specs.Act.{ScopeEntry, is_name, is_alias, Store, OutOfTurns, Ending, Outcome, Result, and_then, with_turn, put, module_name, resolved, restore, leave, call_then, returned, returned_outcome, on_again, rounds}
-use Rattle.theory_naming.specs.Naming.{OptionOf, both_some, ListOf, both_empty, both_more, Like, unit_like, bool_like, int_like, float_like, char_like, text_like, array_like, map_like, pointer_like, range_like, inclusive_like, MaybeLike, EntryLike, entry_like, StoreLike, returns_like, breaks_like, continues_like, throw_like, again_like, EndingLike, gives_like, leaves_like, OutcomeLike, ended_like, halted_like, ResultLike, at_like}
-use Rattle.theory_naming.proofs.Values.{length_kept}
+use Rattle.theory_meaning.specs.Engine.{Binding, constant_named, or_else}
+use Rattle.theory_meaning.specs.Act.{EntryKind, is_published, published, declared, inside, ScopeEntry, is_name, is_alias, Store, OutOfTurns, Ending, Outcome, Result, and_then, with_turn, put, module_name, resolved, restore, leave, call_then, returned, returned_outcome, on_again, rounds}
+use Rattle.theory_naming.specs.Naming.{OptionOf, both_none, both_some, ListOf, both_empty, both_more, Like, unit_like, bool_like, int_like, float_like, char_like, text_like, array_like, map_like, pointer_like, range_like, inclusive_like, MaybeLike, EntryLike, entry_like, BindingLike, binding_like, StoreLike, returns_like, breaks_like, continues_like, throw_like, again_like, EndingLike, gives_like, leaves_like, OutcomeLike, ended_like, halted_like, ResultLike, at_like}
+use Rattle.theory_naming.proofs.Values.{append_like, length_kept}
 
 drop_like : {A : Type 0} {R : A → A → Type 0} (n : ℕ) {xs ys : List A} → ListOf R xs ys → ListOf R (drop n xs) (drop n ys)
 drop_like zero h = h
@@ -44,6 +46,36 @@ module _ {N : Text → Text → Type 0} where
   put_like both_empty x h = both_empty
   put_like (both_more (entry_like y k j) r) x h = or_put (is_name k && same_text y x) (both_more (entry_like y k h) r) (both_more (entry_like y k j) (put_like r x h))
 
+  -- ---- constants that functions see
+
+  or_else_like : {o p o' p' : Option Value} → MaybeLike N o o' → MaybeLike N p p' → MaybeLike N (or_else o p) (or_else o' p')
+  or_else_like both_none k = k
+  or_else_like (both_some h) k = both_some h
+
+  some_if_like : (b : Bool) {v w : Value} → Like N v w → MaybeLike N (if b then Some v else None) (if b then Some w else None)
+  some_if_like true h = both_some h
+  some_if_like false h = both_none
+
+  pub bound_like : {bs cs : List Binding} → ListOf (BindingLike N) bs cs → (x : Text) → MaybeLike N (constant_named bs x) (constant_named cs x)
+  bound_like both_empty x = both_none
+  bound_like (both_more (binding_like y h) r) x = or_else_like (bound_like r x) (some_if_like (same_text y x) h)
+
+  published_like : (b : Bool) (x : Text) {v w : Value} → Like N v w → {bs cs : List Binding} → ListOf (BindingLike N) bs cs → ListOf (BindingLike N) (published b x v bs) (published b x w cs)
+  published_like true x h k = append_like k (both_more (binding_like x h) both_empty)
+  published_like false x h k = k
+
+  pub declared_like : (x : Text) (k : EntryKind) {v w : Value} → Like N v w → {s s' : Store} → StoreLike N s s' → StoreLike N (declared x k v s) (declared x k w s')
+  declared_like x k {v = v} {w = w} h {s = s} {s' = s'} q = record {
+    scope = both_more (entry_like x k h) q.scope;
+    globals = subst (λ b. ListOf (BindingLike N) (published (s.is_own && is_published k) x v s.globals) (published (b && is_published k) x w s'.globals)) q.own (published_like (s.is_own && is_published k) x h q.globals);
+    own = q.own;
+    this = q.this;
+    calls = q.calls;
+  }
+
+  pub inside_like : {s s' : Store} → StoreLike N s s' → StoreLike N (inside s) (inside s')
+  inside_like q = record { scope = q.scope; globals = q.globals; own = refl; this = q.this; calls = q.calls }
+
   -- ---- results
 
   pub then_like : {r r' : Result} → ResultLike N r r' → (f f' : Ending → Store → ℕ → Result) → ((e e' : Ending) → EndingLike N e e' → (s s' : Store) → StoreLike N s s' → (t : ℕ) → ResultLike N (f e s t) (f' e' s' t)) → ResultLike N (and_then r f) (and_then r' f')
@@ -54,13 +86,13 @@ module _ {N : Text → Text → Type 0} where
   turn_like zero h f f' k = at_like zero (halted_like OutOfTurns) h
   turn_like (suc t) h f f' k = k t
 
-  pub leave_like' : {es fs : List ScopeEntry} → ListOf (EntryLike N) es fs → {r r' : Result} → ResultLike N r r' → ResultLike N (leave es r) (leave fs r')
-  leave_like' h (at_like t o s) = at_like t o (record { scope = restore_like h s.scope; this = s.this; calls = s.calls })
+  pub leave_like' : {old old' : Store} → StoreLike N old old' → {r r' : Result} → ResultLike N r r' → ResultLike N (leave old r) (leave old' r')
+  leave_like' h (at_like t o s) = at_like t o (record { scope = restore_like h.scope s.scope; globals = s.globals; own = h.own; this = s.this; calls = s.calls })
 
   pub called_like : {s s' : Store} → StoreLike N s s' → {r r' : Result} → ResultLike N r r' → (f f' : Value → Option Value → Store → ℕ → Result) → ((v w : Value) → Like N v w → (o p : Option Value) → MaybeLike N o p → (s1 s2 : Store) → StoreLike N s1 s2 → (t : ℕ) → ResultLike N (f v o s1 t) (f' w p s2 t)) → ResultLike N (call_then s r f) (call_then s' r' f')
-  called_like q (at_like t (ended_like (gives_like h)) s) f f' k = k _ _ h _ _ s.this _ _ (record { scope = q.scope; this = q.this; calls = s.calls }) t
-  called_like q (at_like t (ended_like (leaves_like x)) s) f f' k = at_like t (ended_like (leaves_like x)) (record { scope = q.scope; this = q.this; calls = s.calls })
-  called_like q (at_like t (halted_like x) s) f f' k = at_like t (halted_like x) (record { scope = q.scope; this = q.this; calls = s.calls })
+  called_like q (at_like t (ended_like (gives_like h)) s) f f' k = k _ _ h _ _ s.this _ _ (record { scope = q.scope; globals = q.globals; own = q.own; this = q.this; calls = s.calls }) t
+  called_like q (at_like t (ended_like (leaves_like x)) s) f f' k = at_like t (ended_like (leaves_like x)) (record { scope = q.scope; globals = q.globals; own = q.own; this = q.this; calls = s.calls })
+  called_like q (at_like t (halted_like x) s) f f' k = at_like t (halted_like x) (record { scope = q.scope; globals = q.globals; own = q.own; this = q.this; calls = s.calls })
 
   outcome_kept : {o p : Outcome} → OutcomeLike N o p → OutcomeLike N (returned_outcome o) (returned_outcome p)
   outcome_kept (ended_like (gives_like h)) = ended_like (gives_like h)

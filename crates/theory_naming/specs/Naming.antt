@@ -2,12 +2,13 @@
 use Rattle.std.specs.Prelude.{◌≡◌, ℕ, suc, ℤ, Bool, true, false, List, [], ◌∷◌, Option, Some, None}
 use Rattle.rhai_base.specs.Value.{Text, Value, UnitV, BoolV, IntV, FloatV, CharV, TextV, ArrayV, MapV, PointerV, RangeV, RangeInclusiveV, Values, no_values, item, Fields, no_fields, field, holds_float}
 use Rattle.rhai_base.specs.Operators.{Operator, Computed, NoEntry, Is, Overflows}
+use Rattle.theory_meaning.specs.Engine.{Binding}
 use Rattle.theory_meaning.specs.Act.{EntryKind, ScopeEntry, HostCall, Answer, Answers, AnswersThrow, Host, Key, Store, Exit, Returns, Breaks, Continues, Throws, Again, Ending, Gives, Leaves, Halt, Outcome, Ended, Halted, Result, At, ScriptCall, Root}
 use Rattle.base_tokens.specs.Names.{is_valid_name}
 use Rattle.theory_meaning.specs.Chains.{Access, OfProperty, OfIndex, OfMethod}
 use Rattle.theory_meaning.specs.Places.{Place, Current}
 use Rattle.theory_meaning.specs.Calls.{word, Fn}
-use Rattle.theory_meaning.specs.Core.{Callee, OnOperator, Qualified, ByName, ExitKind, Expr, Ill, Constant, InterpolatedString, ArrayOf, MapOf, Variable, ModuleVariable, ModuleOf, ThisPtr, BlockExpr, FnCall, Chain, And, Or, Coalesce, Exprs, no_exprs, expr, Pairs, no_pairs, pair, Base, OnPlace, OnValue, Step, IllStep, Property, Index, Method, Steps, last, more, Target, IllTarget, Nowhere, ToRoot, ToPart, Guard, Always, When, Arms, no_arms, arm, Deed, IllDeed, Noop, If, Switch, While, Do, For, Assignment, Block, TryCatch, Evaluate, Discard, Leave, Stmt, Var, Does, Stmts, no_stmts, stmt, Function, Script}
+use Rattle.theory_meaning.specs.Core.{Callee, OnOperator, Qualified, ByName, ExitKind, Expr, Ill, Constant, InterpolatedString, ArrayOf, MapOf, Variable, GlobalVariable, ModuleVariable, ModuleOf, ThisPtr, BlockExpr, FnCall, Chain, And, Or, Coalesce, Exprs, no_exprs, expr, Pairs, no_pairs, pair, Base, OnPlace, OnValue, Step, IllStep, Property, Index, Method, Steps, last, more, Target, IllTarget, Nowhere, ToRoot, ToPart, Guard, Always, When, Arms, no_arms, arm, Deed, IllDeed, Noop, If, Switch, While, Do, For, Assignment, Block, TryCatch, Evaluate, Discard, Leave, Stmt, Var, Does, Stmts, no_stmts, stmt, Function, Script}
 use Rattle.theory_meaning.specs.Run.{EntryPoint, AtStatements, AtFunction, function_of}
 use Rattle.theory_meaning.specs.Shape.{names_arm}
 use Rattle.theory_meaning.specs.Tree.{PropertyNames, SwitchTable}
@@ -75,8 +76,13 @@ module _ (N : Text → Text → Type 0) where
     pub path : (p : Text) → h.module_of p ≡ h'.module_of p
     pub text : {v w : Value} → Like v w → holds_float v ≡ true → h.text v ≡ h'.text w
 
+  pub data BindingLike : Binding → Binding → Type 0 where
+    binding_like : (x : Text) {v w : Value} → Like v w → BindingLike (record { name = x; value = v }) (record { name = x; value = w })
+
   pub record StoreLike (s s' : Store) : Type 0 where
     pub scope : ListOf EntryLike s.scope s'.scope
+    pub globals : ListOf BindingLike s.globals s'.globals
+    pub own : s.is_own ≡ s'.is_own
     pub this : MaybeLike s.this s'.this
     pub calls : ListOf CallLike s.calls s'.calls
 
@@ -141,6 +147,7 @@ module _ (N : Text → Text → Type 0) where
       array_of_like : {es fs : Exprs} → ExprsLike es fs → ExprLike (ArrayOf es) (ArrayOf fs)
       map_of_like : {ps qs : Pairs} → PairsLike ps qs → ExprLike (MapOf ps) (MapOf qs)
       variable_like : (x : Text) → ExprLike (Variable x) (Variable x)
+      global_variable_like : (x : Text) → ExprLike (GlobalVariable x) (GlobalVariable x)
       module_variable_like : (m x : Text) → ExprLike (ModuleVariable m x) (ModuleVariable m x)
       module_of_like : {e f : Expr} → ExprLike e f → ExprLike (ModuleOf e) (ModuleOf f)
       this_like : ExprLike ThisPtr ThisPtr

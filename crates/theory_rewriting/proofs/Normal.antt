@@ -1,9 +1,11 @@
 -- Trees in normal form: a node whose parts are, and at which no rule applies; and a list.
-use Rattle.std.proofs.Common.{◌≡◌, [], Bool, true, false, ◌||◌, ◌⊎◌, inl, inr, Option, Some, None, refl, sym, ap, ◌∙◌, subst}
+use Rattle.std.proofs.Common.{◌≡◌, List, [], ◌∷◌, cond, Bool, true, false, ◌||◌, ◌⊎◌, inl, inr, Option, Some, None, refl, sym, ap, ◌∙◌, subst}
+use Rattle.std.specs.Prelude.{codes}
+use Rattle.std.proofs.lemmas.Slice.Eq.{bytes_eq-Decides}
 use Rattle.rhai_base.specs.Value.{Text}
 use Rattle.theory_meaning.specs.Elements.{entry}
-use Rattle.theory_meaning.specs.Act.{Root, OfName, OfThis}
-use Rattle.theory_meaning.specs.Desugar.{root_of}
+use Rattle.theory_meaning.specs.Act.{Root, OfName, OfGlobal, OfThis}
+use Rattle.theory_meaning.specs.Desugar.{is_global, name_root, root_of}
 use Rattle.theory_meaning.specs.Queries.{is_unit}
 use Rattle.theory_meaning.specs.Tree.{ChainFlags, Callee, Expr, BoolConstant, UnitConstant, InterpolatedString, ArrayOf, MapOf, Variable, ThisPtr, MethodCall, BlockExpr, FnCall, Dot, Index, And, Or, Coalesce, Exprs, no_exprs, expr, Pairs, no_pairs, pair, no_expr, an_expr, Arms, no_arms, arm, Stmt, If, Switch, While, Do, For, Var, Assignment, Block, TryCatch, ExprStmt, FnCallStmt, BreakLoop, Return, Import, Stmts, no_stmts, stmt}
 use Rattle.theory_rewriting.specs.Context.{Context, behind, ListKind, Inside, wanted, wanted_before, open_list, ListContext}
@@ -196,14 +198,29 @@ guard_stays : {k : Context} (o : Expr) → HasNormalParts k o → NoExprRule k A
 guard_stays {k = k} o h n {x = x} (guard p i) j = not_apart is_unit o x (stays_or o (Apart k is_unit o) h (λ y r. guard_rule o y n r) (apart_stays is_unit o) p j) (i ∙ ap is_unit j)
 
 -- places are told apart by their roots
+abbrev tree_of : Root → Expr
+tree_of (OfName x) = Variable [] x
+tree_of (OfGlobal x) = Variable (codes "global" ∷ []) x
+tree_of OfThis = ThisPtr
+
+is_tree_of : (e : Expr) (q r : Root) → Some q ≡ Some r → e ≡ tree_of q → e ≡ tree_of r
+is_tree_of e q r h = subst (λ p. e ≡ tree_of p) (let z : q ≡ r = cc in z)
+
+name_back : (ns : List Text) (x : Text) (r : Root) → name_root ns x ≡ Some r → Variable ns x ≡ tree_of r
+name_back [] x r h = is_tree_of _ (OfName x) r h refl
+name_back (m ∷ []) x r h = by (is_global m) refl h where
+  by : (b : Bool) → is_global m ≡ b → cond b (Some (OfGlobal x)) None ≡ Some r → Variable (m ∷ []) x ≡ tree_of r
+  by true g k = is_tree_of _ (OfGlobal x) r k (ap (λ n. Variable (n ∷ []) x) ((bytes_eq-Decides m (codes "global")).0 g))
+  by false g k = absurd (let z : None ≡ Some r = k in cc)
+name_back (m ∷ n ∷ ns) x r h = absurd (let z : None ≡ Some r = h in cc)
+
+root_back : (e : Expr) (r : Root) → root_of e ≡ Some r → e ≡ tree_of r
+root_back (Variable ns x) r h = name_back ns x r h
+root_back ThisPtr r h = is_tree_of _ OfThis r h refl
+root_back _ r h = absurd cc
+
 same_place : (e x : Expr) (r : Root) → root_of e ≡ Some r → root_of x ≡ Some r → x ≡ e
-same_place (Variable [] y) (Variable [] z) r h i = ap (Variable []) (named_so (i ∙ sym h)) where
-  named_so : Some (OfName z) ≡ Some (OfName y) → z ≡ y
-  named_so h = cc
-same_place ThisPtr ThisPtr r h i = refl
-same_place (Variable [] y) ThisPtr r h i = absurd (let z : Some OfThis ≡ Some (OfName y) = i ∙ sym h in cc)
-same_place ThisPtr (Variable [] y) r h i = absurd (let z : Some OfThis ≡ Some (OfName y) = h ∙ sym i in cc)
-same_place _ _ r h i = absurd cc
+same_place e x r h i = root_back x r i ∙ sym (root_back e r h)
 
 -- what is alone in braces
 abbrev alone_in : Stmts → Expr → Expr
@@ -236,8 +253,7 @@ place_made r h i rule.or_of_one j = first_normal h
 place_made r h i rule.coalesce_of_one j = first_normal h
 place_made r h i (rule.dot_rule s) j = no_place (chain_root s) j
 place_made r h i (rule.index_rule s) j = no_place (chain_root s) j
-place_made r h i (rule.known_name v q) j = no_place i refl
-place_made r h i (rule.known_pointer f q t) j = no_place i refl
+place_made r h i (rule.known_name v q) j = no_place (root_of_value v) j
 place_made r h i _ j = no_place refl j
 
 base_rule : {k : Context} (o x : Expr) → HasNormalParts k o → NoExprRule k AsBase o → root_of o ≡ None → ExprRule k o x → Apart k root_of o x

@@ -10,9 +10,10 @@ use Rattle.theory_meaning.specs.Walk.{over_arms, arm_at, arms_at, listed}
 use Rattle.theory_meaning.specs.Tree.{ChainFlags, SwitchTable, Callee, Expr, InterpolatedString, ArrayOf, MapOf, Variable, ThisPtr, Property, MethodCall, BlockExpr, FnCall, Dot, Index, And, Or, Coalesce, Exprs, no_exprs, expr, Pairs, no_pairs, pair, MaybeExpr, no_expr, an_expr, Arms, no_arms, arm, Stmt, If, Switch, While, Do, For, Var, Assignment, Block, TryCatch, ExprStmt, FnCallStmt, BreakLoop, Return, Import, Stmts, no_stmts, stmt}
 use Rattle.theory_rewriting.specs.Answering.{AnswersNothing, of_first}
 use Rattle.theory_rewriting.specs.Clear.{IsClearExpr, AreClearExprs, AreClear}
-use Rattle.theory_rewriting.specs.Context.{Context, ListContext, open_list, closed_list, behind, under, knowing, naming, naming_some, naming_catch, known_behind, ListKind, Inside, wanted, wanted_before}
+use Rattle.theory_meaning.specs.Act.{OfName}
+use Rattle.theory_rewriting.specs.Context.{Context, ListContext, open_list, closed_list, behind, knowing, naming, naming_some, naming_catch, known_behind, ListKind, Inside, wanted, wanted_before}
 use Rattle.theory_rewriting.specs.Evals.{keeps_names}
-use Rattle.theory_rewriting.specs.Known.{Known}
+use Rattle.theory_rewriting.specs.Known.{Known, globals_of}
 use Rattle.theory_rewriting.specs.Residue.{when, IsReducedNode, IsReducedExpr, AreReducedArms, AreReduced, every_reached}
 use Rattle.theory_rewriting.specs.Rewriting.{ExprTo, in_text, in_array, in_map, in_braces, in_call, in_stray_method, in_chain, in_and, in_or, in_coalesce, ExprsTo, exprs_none, exprs_more, PairsTo, pairs_none, pairs_more, in_dot, in_index, base, ArgumentTo, same_argument, in_method, in_brackets, StepsTo, same_steps, last_method, last_index, more_dot, more_index, same_target, in_target, guard, maybe_none, maybe_some, ArmsTo, arms_none, arms_more, StmtTo, in_if, in_switch, in_while, in_do, in_for, in_var, in_assignment, in_block, in_try, in_expression, in_call_statement, in_break, in_return, in_import, RestTo, same_stmts, then_stmts, in_head, in_tail, flag_forgotten, StmtsTo, same_expr}
 use Rattle.theory_rewriting.specs.Normal.{IsNormal, AreNormalEach, AreSwept, any_gives_way}
@@ -24,7 +25,7 @@ use Rattle.theory_rewriting.specs.Steps.{AnswersNone, ArmsAnswerNone, Progress, 
 use Rattle.theory_rewriting.specs.SurelyUnit.{is_surely_unit}
 use Rattle.theory_meaning.specs.Weight.{weight}
 use Rattle.theory_rewriting.proofs.Clearing.{clear_tests, unclaimed, not_claimed}
-use Rattle.theory_rewriting.proofs.Knowing.{behind_open, behind_closed}
+use Rattle.theory_rewriting.proofs.Knowing.{behind_open, behind_closed, globals_append, globals_twice}
 use Rattle.theory_rewriting.proofs.Weights.{stmts_fall}
 
 -- ---- the same names are known, so one derivation goes after another
@@ -49,13 +50,13 @@ exprs_more_run {s1 = s1} {s2 = s2} {es = es} {es' = es'} p q = record {
 
 -- ---- statements of a list: each knows what those before it declare
 
-declared_front : (s : Stmt) (ks : List Known) → (front : List Known) × (known_behind s ks ≡ front ++ ks)
-declared_front (Var true exported x e) ks = (record { name = x; value = constant_value e } ∷ [], refl)
-declared_front (Var false exported x e) ks = (record { name = x; value = None } ∷ [], refl)
-declared_front _ ks = ([], refl)
+declared_front : (s : Stmt) (ks : List Known) → (front : List Known) × (known_behind s ks ≡ front ++ ks) × (globals_of front ≡ [])
+declared_front (Var true exported x e) ks = (record { root = OfName x; value = constant_value e } ∷ [], refl, refl)
+declared_front (Var false exported x e) ks = (record { root = OfName x; value = None } ∷ [], refl, refl)
+declared_front _ ks = ([], refl, refl)
 
 pub each_none_run : {r : Engine} {m : ListKind} {s : Progress} → EachRun r m s s no_stmts no_stmts
-each_none_run = record { to = λ u. same_stmts; reduced = tt; clear = tt; front = []; known = refl; normal = λ h. tt }
+each_none_run = record { to = λ u. same_stmts; reduced = tt; clear = tt; front = []; names = refl; known = refl; normal = λ h. tt }
 
 pub each_more_run : {r : Engine} {m : ListKind} {s s1 s2 : Progress} {x x' : Stmt} {ss ss' : Stmts} → ItemRun r (wanted_before (wanted m) ss) s s1 x x' → keeps_names x' ≡ true → EachRun r m s1 s2 ss ss' → EachRun r m s s2 (stmt x ss) (stmt x' ss')
 each_more_run {r = r} {m = m} {s = s} {s1 = s1} {s2 = s2} {x' = x'} {ss = ss} {ss' = ss'} p h q =
@@ -65,6 +66,7 @@ each_more_run {r = r} {m = m} {s = s} {s1 = s1} {s2 = s2} {x' = x'} {ss = ss} {s
       reduced = (p.reduced, q.reduced);
       clear = (p.clear, unclaimed (keeps_names x') (subst (λ ks. AreClear ks ss') p.known q.clear));
       front = q.front ++ f.0;
+      names = globals_append q.front f.0 ∙ (λ i. q.names i ++ f.2 i);
       known = q.known ∙ ap (λ l. q.front ++ l) (p.known ∙ f.1) ∙ sym (append_assoc q.front f.0 s.known);
       normal = λ i.
           let z = flag.stmts_kept (q.to true) i in
@@ -73,20 +75,22 @@ each_more_run {r = r} {m = m} {s = s} {s1 = s1} {s2 = s2} {x' = x'} {ss = ss} {s
       behind_it : (F : ListContext → Type 0) → F (open_list (here r s1)) → F (behind x' (open_list (here r s)))
       behind_it F y = subst F (behind_open x' s.known h) (knows (λ k. F (open_list k)) p.known y)
 
--- ---- and behind a call of `eval` nothing
+-- ---- and behind a call of `eval` the constants of the script's own list alone
 
 pub unknown_none_run : {r : Engine} {m : ListKind} {s : Progress} → UnknownRun r m s s no_stmts no_stmts
 unknown_none_run = record { to = λ u. same_stmts; reduced = tt; known = refl; normal = λ h. tt }
 
-pub unknown_more_run : {r : Engine} {m : ListKind} {s s1 s2 : Progress} {x x' : Stmt} {ss ss' : Stmts} → s.known ≡ [] → StmtRun r (wanted_before (wanted m) ss) s s1 x x' → UnknownRun r m s1 s2 ss ss' → UnknownRun r m s s2 (stmt x ss) (stmt x' ss')
-unknown_more_run {r = r} {m = m} {s = s} {s1 = s1} {x = x} {x' = x'} {ss = ss} h p q = record {
-  to = λ u. then_stmts (in_head (knows (λ k. StmtTo k (wanted_before (wanted m) ss) s.is_dirty s1.is_dirty x x') h p.to)) (in_tail (q.to (is_surely_unit x')));
+pub unknown_more_run : {r : Engine} {m : ListKind} {s s1 s2 : Progress} {x x' : Stmt} {ss ss' : Stmts} → s.known ≡ globals_of s.known → StmtRun r (wanted_before (wanted m) ss) s s1 x x' → UnknownRun r m s1 s2 ss ss' → UnknownRun r m s s2 (stmt x ss) (stmt x' ss')
+unknown_more_run {r = r} {m = m} {s = s} {s1 = s1} {s2 = s2} {x = x} {x' = x'} {ss = ss} {ss' = ss'} h p q = record {
+  to = λ u. then_stmts (in_head (knows (λ k. StmtTo k (wanted_before (wanted m) ss) s.is_dirty s1.is_dirty x x') h p.to)) (in_tail (onward (λ k. RestTo k m (is_surely_unit x') s1.is_dirty s2.is_dirty ss ss') (q.to (is_surely_unit x'))));
   reduced = (p.reduced, q.reduced);
   known = q.known ∙ p.known;
   normal = λ i.
       let z = flag.stmts_kept (q.to true) i in
-      (subst (λ l. IsNormal (StmtTo (under r) (wanted_before (wanted m) l)) x') z.1 (knows (λ k. IsNormal (StmtTo k (wanted_before (wanted m) ss)) x') h (p.normal z.0)), q.normal i);
-}
+      (subst (λ l. IsNormal (StmtTo (closed_list (here r s)).context (wanted_before (wanted m) l)) x') z.1 (knows (λ k. IsNormal (StmtTo k (wanted_before (wanted m) ss)) x') h (p.normal z.0)), onward (λ k. AreNormalEach k m ss') (q.normal i));
+} where
+  onward : (F : ListContext → Type 0) → F (closed_list (here r s1)) → F (behind x' (closed_list (here r s)))
+  onward F y = subst (λ ks. F (record { context = knowing r ks; is_open = false })) (ap globals_of (p.known ∙ h)) y
 
 -- a state, and whether something has changed beside it
 abbrev pub beside : Progress → Progress → Progress
@@ -99,6 +103,7 @@ each_noted {r = r} {m = m} {s = s} {ss = ss} {ss' = ss'} s1 u d k p = record {
   reduced = p.reduced;
   clear = p.clear;
   front = p.front;
+  names = p.names;
   known = k ∙ p.known;
   normal = λ h. p.normal (sym d ∙ h);
 }
@@ -113,21 +118,22 @@ both_clear : (a b : Bool) → a || b ≡ false → (a ≡ false) × (b ≡ false
 both_clear true b h = absurd cc
 both_clear false b h = (refl, h)
 
-pub each_ends_run : {r : Engine} {m : ListKind} {s s1 u u' : Progress} {x x' : Stmt} {ss ss' : Stmts} → ItemRun r (wanted_before (wanted m) ss) s s1 x x' → keeps_names x' ≡ false → u.is_dirty ≡ false → UnknownRun r m u u' ss ss' → EachRun r m s (beside s1 u') (stmt x ss) (stmt x' ss')
-each_ends_run {r = r} {m = m} {s = s} {s1 = s1} {u' = u'} {x' = x'} {ss = ss} {ss' = ss'} p h d q =
+pub each_ends_run : {r : Engine} {m : ListKind} {s s1 u u' : Progress} {x x' : Stmt} {ss ss' : Stmts} → ItemRun r (wanted_before (wanted m) ss) s s1 x x' → keeps_names x' ≡ false → u.is_dirty ≡ false → u.known ≡ globals_of s.known → UnknownRun r m u u' ss ss' → EachRun r m s (beside s1 u') (stmt x ss) (stmt x' ss')
+each_ends_run {r = r} {m = m} {s = s} {s1 = s1} {u = u} {u' = u'} {x' = x'} {ss = ss} {ss' = ss'} p h d g q =
     let f = declared_front x' s.known in
     record {
-      to = λ v. then_stmts (in_head p.to) (in_tail (flagged s1.is_dirty u'.is_dirty (behind_it (λ k. RestTo k m (is_surely_unit x') false u'.is_dirty ss ss') (subst (λ b. RestTo (closed_list r) m (is_surely_unit x') b u'.is_dirty ss ss') d (q.to (is_surely_unit x'))))));
+      to = λ v. then_stmts (in_head p.to) (in_tail (flagged s1.is_dirty u'.is_dirty (behind_it (λ k. RestTo k m (is_surely_unit x') false u'.is_dirty ss ss') (subst (λ b. RestTo (closed_list (here r u)) m (is_surely_unit x') b u'.is_dirty ss ss') d (q.to (is_surely_unit x'))))));
       reduced = (p.reduced, q.reduced);
       clear = (p.clear, not_claimed (keeps_names x') _ h);
       front = f.0;
+      names = f.2;
       known = p.known ∙ f.1;
       normal = λ i.
           let z = both_clear u'.is_dirty s1.is_dirty i in
           (subst (λ l. IsNormal (StmtTo (here r s) (wanted_before (wanted m) l)) x') (flag.stmts_kept (q.to true) z.0).1 (p.normal z.1), behind_it (λ k. AreNormalEach k m ss') (q.normal z.0));
     } where
-      behind_it : (F : ListContext → Type 0) → F (closed_list r) → F (behind x' (open_list (here r s)))
-      behind_it F y = subst F (behind_closed x' s.known h) y
+      behind_it : (F : ListContext → Type 0) → F (closed_list (here r u)) → F (behind x' (open_list (here r s)))
+      behind_it F y = subst F (behind_closed x' s.known h) (subst (λ ks. F (record { context = knowing r ks; is_open = false })) (ap globals_of g ∙ globals_twice s.known) y)
 
 -- ---- the parts of an expression
 

@@ -4,13 +4,8 @@ use Rattle.rhai_base.specs.Value.{Text, Value}
 use Rattle.theory_meaning.specs.Tree.{Expr, Variable, BlockExpr, And, Or, Coalesce, Exprs, no_exprs, expr, Stmt, If, Block, ExprStmt, Stmts, no_stmts, stmt}
 use Rattle.theory_rewriting.specs.Context.{known_behind}
 use Rattle.theory_rewriting.specs.Evals.{keeps_names}
-use Rattle.theory_rewriting.specs.Known.{Known, look}
+use Rattle.theory_rewriting.specs.Known.{Known, known_at}
 use Rattle.theory_rewriting.specs.Residue.{when}
-
--- what is known of a name, if it has no namespace
-abbrev pub known_at : List Known → List Text → Text → Option Value
-known_at ks [] x = look ks x
-known_at ks (n ∷ ns) x = None
 
 abbrev pub known_value : List Known → Expr → Option Value
 known_value ks (Variable ns x) = known_at ks ns x

@@ -2,10 +2,11 @@
 use Rattle.std.specs.Prelude.{Bool, true, false, ◌&&◌, cond, List, [], ◌∷◌, Option, Some, None}
 use Rattle.rhai_base.specs.Value.{Text, Value}
 use Rattle.theory_meaning.specs.Constants.{constant_value}
+use Rattle.theory_meaning.specs.Act.{OfName}
 use Rattle.theory_meaning.specs.Engine.{Engine}
 use Rattle.theory_meaning.specs.Tree.{Stmt, Var, Stmts, no_stmts, stmt}
 use Rattle.theory_rewriting.specs.Evals.{keeps_names}
-use Rattle.theory_rewriting.specs.Known.{Known, shadow}
+use Rattle.theory_rewriting.specs.Known.{Known, globals_of, shadow}
 
 -- the engine's record, and the names known
 pub record Context : Type 0 where
@@ -22,7 +23,7 @@ under engine = knowing engine []
 
 -- under one more name, a constant of this value or of which nothing is known
 abbrev pub noting : Text → Option Value → Context → Context
-noting x o k = record { engine = k.engine; known = record { name = x; value = o } ∷ k.known }
+noting x o k = record { engine = k.engine; known = record { root = OfName x; value = o } ∷ k.known }
 
 -- under names that are variables: any, one or none, a catch name if it is one
 abbrev pub naming : Text → Context → Context
@@ -38,7 +39,7 @@ naming_catch (Some x) k = naming_some x k
 
 -- what a statement of a list adds: a constant with a constant expression has its value
 abbrev pub known_behind : Stmt → List Known → List Known
-known_behind (Var true exported x e) ks = record { name = x; value = constant_value e } ∷ ks
+known_behind (Var true exported x e) ks = record { root = OfName x; value = constant_value e } ∷ ks
 known_behind (Var false exported x e) ks = shadow x ks
 known_behind s ks = ks
 
@@ -51,12 +52,12 @@ pub record ListContext : Type 0 where
 abbrev pub open_list : Context → ListContext
 open_list k = record { context = k; is_open = true }
 
-abbrev pub closed_list : Engine → ListContext
-closed_list engine = record { context = under engine; is_open = false }
+abbrev pub closed_list : Context → ListContext
+closed_list k = record { context = knowing k.engine (globals_of k.known); is_open = false }
 
--- behind a statement, where names are kept (the test) or not
+-- behind a statement, where names are kept (the test) or the constants of the script's own list alone
 abbrev pub known_after : Bool → Stmt → List Known → List Known
-known_after b s ks = cond b (known_behind s ks) []
+known_after b s ks = cond b (known_behind s ks) (globals_of ks)
 
 abbrev pub behind_by : Bool → Stmt → Context → ListContext
 behind_by b s k = record { context = knowing k.engine (known_after b s k.known); is_open = b }

@@ -14,7 +14,7 @@ use Rattle.theory_meaning.specs.Shape.{is_unit, names_arm}
 use Rattle.theory_meaning.specs.Walk.{listed}
 use Rattle.theory_meaning.specs.Tree.{SwitchTable, Arms, OfOperator, ChainFlags, PropertyNames, Callee, Expr, DynamicConstant, BoolConstant, StringConstant, UnitConstant, InterpolatedString, ArrayOf, MapOf, Variable, Property, MethodCall, BlockExpr, FnCall, Dot, Index, And, Or, Coalesce, Exprs, no_exprs, expr, count_exprs, Pairs, Stmt, Noop, If, Switch, While, Assignment, Block, TryCatch, ExprStmt, FnCallStmt, Share, Return, no_expr, an_expr, Stmts, no_stmts, stmt, joined}
 use Rattle.theory_rewriting.specs.Context.{Context, ListKind, Whole, Inside, wanted, wanted_before}
-use Rattle.theory_rewriting.specs.Known.{look, unknown}
+use Rattle.theory_rewriting.specs.Known.{look, known_at, unknown}
 use Rattle.theory_rewriting.specs.Exports.{exports_nothing}
 use Rattle.theory_rewriting.specs.Folding.{folded}
 use Rattle.theory_rewriting.specs.Operands.{with_last, is_and, ends_false, OperandsTo, CoalesceTo, TextTo}
@@ -77,8 +77,8 @@ pub data ChainRule (k : Context) : (dot : Bool) → ChainFlags → Expr → Expr
   step_answers : {dot : Bool} {f : ChainFlags} {e a e' : Expr} → StepRule k dot f e a e' → ChainRule k dot f e a e'
   chain_goes_on : {dot : Bool} (next : Bool) {f : ChainFlags} {e a e' : Expr} (m : ChainFlags) (r : Expr) → f.breaks ≡ false → StepRule k dot f e a e' → ChainRule k dot f e (link next m a r) (link next m e' r)
   -- a part of a name that is known as a constant map
-  known_property : {f : ChainFlags} {x : Text} {p : PropertyNames} (fs : Fields) → look k.known x ≡ Some (MapV fs) → ChainRule k true f (Variable [] x) (Property p) (constant_of (entry fs p.name))
-  known_entry : {f : ChainFlags} {x : Text} {i : Expr} (fs : Fields) (y : Text) → look k.known x ≡ Some (MapV fs) → constant_value i ≡ Some (TextV y) → ChainRule k false f (Variable [] x) i (constant_of (entry fs y))
+  known_property : {f : ChainFlags} {ns : List Text} {x : Text} {p : PropertyNames} (fs : Fields) → known_at k.known ns x ≡ Some (MapV fs) → ChainRule k true f (Variable ns x) (Property p) (constant_of (entry fs p.name))
+  known_entry : {f : ChainFlags} {ns : List Text} {x : Text} {i : Expr} (fs : Fields) (y : Text) → known_at k.known ns x ≡ Some (MapV fs) → constant_value i ≡ Some (TextV y) → ChainRule k false f (Variable ns x) i (constant_of (entry fs y))
 
 -- of expressions
 pub data ExprRule (k : Context) : Expr → Expr → Type 0 where
@@ -116,9 +116,9 @@ pub data ExprRule (k : Context) : Expr → Expr → Type 0 where
   dot_rule : {f : ChainFlags} {e a e' : Expr} → ChainRule k true f e a e' → ExprRule k (Dot f e a) e'
   index_rule : {f : ChainFlags} {e a e' : Expr} → ChainRule k false f e a e' → ExprRule k (Index f e a) e'
   -- a name that is known as a constant is its value
-  known_name : {x : Text} (v : Value) → look k.known x ≡ Some v → ExprRule k (Variable [] x) (constant_of v)
+  known_name : {ns : List Text} {x : Text} (v : Value) → known_at k.known ns x ≡ Some v → ExprRule k (Variable ns x) (constant_of v)
   -- a pointer without values may be the call that makes it
-  known_pointer : {x : Text} (f : Text) → look k.known x ≡ Some (PointerV f (values [])) → is_valid_name f ≡ true → ExprRule k (Variable [] x) (pointer_call f)
+  known_pointer : {ns : List Text} {x : Text} (f : Text) → known_at k.known ns x ≡ Some (PointerV f (values [])) → is_valid_name f ≡ true → ExprRule k (Variable ns x) (pointer_call f)
 
 -- of statements; w: whether the statement's value is wanted
 pub data StmtRule (k : Context) (w : Bool) : Stmt → Stmt → Type 0 where

@@ -1,12 +1,12 @@
 -- Scripts whose statements and functions are rewritten, and what is known where.
-use Rattle.std.specs.Prelude.{◌≡◌, Bool, true, false, not, ◌&&◌, List, [], ◌∷◌, ◌++◌, Option, Some, None, cond}
-use Rattle.rhai_base.specs.Value.{Text, Value}
-use Rattle.theory_meaning.specs.Act.{EntryKind, IsConstant, ScopeEntry, Root}
+use Rattle.std.specs.Prelude.{◌≡◌, Bool, true, false, not, ◌&&◌, ◌||◌, List, [], ◌∷◌, ◌++◌, Option, Some, None, cond}
+use Rattle.rhai_base.specs.Value.{Text, Value, UnitV, BoolV, IntV, FloatV, CharV, TextV, same_text}
+use Rattle.theory_meaning.specs.Act.{EntryKind, IsConstant, ScopeEntry, Root, OfName, OfGlobal}
 use Rattle.theory_meaning.specs.Desugar.{root_of, ends_in_call}
 use Rattle.theory_meaning.specs.Engine.{Engine, Binding}
 use Rattle.theory_meaning.specs.Plain.{all_true}
-use Rattle.theory_meaning.specs.Shape.{is_chain}
-use Rattle.theory_meaning.specs.Tree.{Callee, Expr, Variable, ThisPtr, FnCall, Dot, Index, Assignment, FnCallStmt, Function, Script}
+use Rattle.theory_meaning.specs.Shape.{is_unit, is_chain}
+use Rattle.theory_meaning.specs.Tree.{Callee, Expr, DynamicConstant, BoolConstant, IntegerConstant, FloatConstant, CharConstant, StringConstant, UnitConstant, Variable, ThisPtr, FnCall, Dot, Index, Var, Assignment, FnCallStmt, Stmts, no_stmts, stmt, Function, Script}
 use Rattle.theory_meaning.specs.Walk.{Node, OfExpr, OfStmt, over_script}
 use Rattle.theory_rewriting.specs.Context.{Context, Whole}
 use Rattle.theory_rewriting.specs.Known.{Known, shadow_all}
@@ -21,12 +21,12 @@ fixed_value _ v = None
 -- a scope's constants, and that its variables are none
 abbrev pub known_in : List ScopeEntry → List Known
 known_in [] = []
-known_in (e ∷ es) = record { name = e.name; value = fixed_value e.kind e.value } ∷ known_in es
+known_in (e ∷ es) = record { root = OfName e.name; value = fixed_value e.kind e.value } ∷ known_in es
 
 -- the record's constants, a later one of a name first
 abbrev pub known_of : List Binding → List Known
 known_of [] = []
-known_of (b ∷ bs) = known_of bs ++ record { name = b.name; value = Some b.value } ∷ []
+known_of (b ∷ bs) = known_of bs ++ record { root = OfName b.name; value = Some b.value } ∷ []
 
 -- at top level a scope's names go before the record's; in a body, which starts without that scope, after them
 abbrev pub known_at_top : Engine → List ScopeEntry → List Known
@@ -34,6 +34,31 @@ known_at_top engine scope = known_in scope ++ known_of engine.constants
 
 abbrev pub known_in_bodies : Engine → List ScopeEntry → List Known
 known_in_bodies engine scope = known_of engine.constants ++ known_in scope
+
+-- ---- the constants of the script's own list
+
+-- what a constant expression that is one node is
+abbrev pub literal_value : Expr → Option Value
+literal_value (DynamicConstant v) = cond (is_unit v) None (Some v)
+literal_value (BoolConstant b) = Some (BoolV b)
+literal_value (IntegerConstant n) = Some (IntV n)
+literal_value (FloatConstant x) = Some (FloatV x)
+literal_value (CharConstant c) = Some (CharV c)
+literal_value (StringConstant t) = Some (TextV t)
+literal_value UnitConstant = Some UnitV
+literal_value _ = None
+
+-- whether a list declares a constant of this name
+abbrev pub declares_constant : Text → Stmts → Bool
+declares_constant x no_stmts = false
+declares_constant x (stmt (Var true exported y e) ss) = same_text y x || declares_constant x ss
+declares_constant x (stmt s ss) = declares_constant x ss
+
+-- a constant that a list declares once, by a literal, is its value
+abbrev pub known_globals : Stmts → List Known
+known_globals no_stmts = []
+known_globals (stmt (Var true exported x e) ss) = record { root = OfGlobal x; value = cond (declares_constant x ss) None (literal_value e) } ∷ known_globals ss
+known_globals (stmt s ss) = known_globals ss
 
 -- ---- calls that see the caller's names
 
@@ -54,7 +79,7 @@ captures_nothing p = over_script (all_true (λ n. not (is_capturing n))) p
 
 -- nothing from outside is known in bodies, if any call of the script captures
 abbrev pub known_inside : Engine → List ScopeEntry → Script → List Known
-known_inside engine scope p = cond (captures_nothing p) (known_in_bodies engine scope) []
+known_inside engine scope p = cond (captures_nothing p) (known_in_bodies engine scope ++ known_globals p.statements) []
 
 -- ---- left sides
 

@@ -1,5 +1,6 @@
 -- What the functions of the optimiser promise: a tree was rewritten, nothing in it is left to reduce, and the same names are known.
 use Rattle.std.specs.Prelude.{◌≡◌, ◌<◌, Bool, true, false, List, [], ◌∷◌, ◌++◌, Option, Some, None}
+use Rattle.theory_meaning.specs.Act.{OfName}
 use Rattle.theory_meaning.specs.Desugar.{root_of}
 use Rattle.theory_meaning.specs.Engine.{Engine}
 use Rattle.theory_meaning.specs.Queries.{is_unit}
@@ -12,7 +13,7 @@ use Rattle.theory_rewriting.specs.Answering.{AnswersNothing, of_first}
 use Rattle.theory_rewriting.specs.Clear.{known_value, IsClearExpr, AreClearExprs, HasClearParts, IsClear, AreClear}
 use Rattle.theory_rewriting.specs.Residue.{IsReducedNode, IsReducedExpr, AreReducedExprs, AreReducedPairs, IsReducedMaybe, AreReducedArms, IsReduced, AreReduced, ExprParts, StmtParts}
 use Rattle.theory_rewriting.specs.Context.{Context, ListContext, open_list, closed_list, knowing, naming, naming_some, naming_catch, known_behind, ListKind, Whole, Inside, wanted, wanted_before}
-use Rattle.theory_rewriting.specs.Known.{Known}
+use Rattle.theory_rewriting.specs.Known.{Known, globals_of}
 use Rattle.theory_rewriting.specs.Normal.{IsNormal, HasNormalParts, StmtHasNormalParts, AreNormalEach, AreSwept, any_gives_way}
 use Rattle.theory_rewriting.specs.Reducible.{goes_on_after_leaving, idles, ends_in_return, IsIrreducibleList}
 use Rattle.theory_rewriting.specs.Rewriting.{ExprTo, ExprsTo, PairsTo, MaybeTo, ArmsTo, ChainTo, BaseTo, GuardTo, StepsTo, ArgumentTo, TargetTo, StmtTo, RestTo, StmtsTo}
@@ -160,15 +161,16 @@ pub record EachRun (r : Engine) (m : ListKind) (s s' : Progress) (ss ss' : Stmts
   pub reduced : AreReduced r ss'
   pub clear : AreClear s.known ss'
   pub front : List Known
+  pub names : globals_of front ≡ []
   pub known : s'.known ≡ front ++ s.known
   pub normal : s'.is_dirty ≡ false → AreNormalEach (open_list (here r s)) m ss'
 
 -- statements of a list in which `eval` was called
 pub record UnknownRun (r : Engine) (m : ListKind) (s s' : Progress) (ss ss' : Stmts) : Type 0 where
-  pub to : (u : Bool) → RestTo (closed_list r) m u s.is_dirty s'.is_dirty ss ss'
+  pub to : (u : Bool) → RestTo (closed_list (here r s)) m u s.is_dirty s'.is_dirty ss ss'
   pub reduced : AreReduced r ss'
   pub known : s'.known ≡ s.known
-  pub normal : s'.is_dirty ≡ false → AreNormalEach (closed_list r) m ss'
+  pub normal : s'.is_dirty ≡ false → AreNormalEach (closed_list (here r s)) m ss'
 
 -- a whole list, of which the statements are reduced
 pub record ListRun (r : Engine) (m : ListKind) (s s' : Progress) (ss ss' : Stmts) : Type 0 where
@@ -262,7 +264,7 @@ pub record AssignRun (r : Engine) (s s' : Progress) (l e l' e' : Expr) : Type 0 
 
 -- the names of a `for`, and a catch name, as variables
 abbrev pub variable : Text → Known
-variable x = record { name = x; value = None }
+variable x = record { root = OfName x; value = None }
 
 abbrev pub loop_front : Text → Option Text → List Known
 loop_front x None = variable x ∷ []

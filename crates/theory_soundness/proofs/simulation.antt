@@ -1,6 +1,7 @@
 pub mod Agreement
 pub mod Setting
 pub mod Matching
+pub mod Declaring
 pub mod Simulation
 pub mod Forms
 pub mod Lists

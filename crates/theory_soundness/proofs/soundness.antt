@@ -1,6 +1,7 @@
 pub mod Behind
 pub mod Derivation
 pub mod Scripts
+pub mod Globals
 pub mod Congruence
 pub mod Apart
 pub mod Capturing

@@ -1,7 +1,7 @@
 -- Acts that run alike: every construct keeps it, and braces around one act change nothing.
 use Rattle.std.proofs.Common.{◌≡◌, ℕ, Bool, refl, ap, ◌∙◌}
 use Rattle.rhai_base.specs.Value.{Text, Value}
-use Rattle.theory_meaning.specs.Act.{EntryKind, Store, World, Env, Act, Scoped, Acts, Only, Named, Finish, with_turn, resolved, rounds, call_then, returned, and_then, leave, run, run_all}
+use Rattle.theory_meaning.specs.Act.{EntryKind, Store, World, Env, Act, Scoped, Acts, Only, Named, Finish, with_turn, resolved, rounds, call_then, returned, and_then, leave, run, run_all, inside}
 use Rattle.theory_meaning.specs.ActForms.{give, ◌>>=◌, then_line}
 use Rattle.theory_meaning.specs.Relations.{OnlyAdds}
 use Rattle.theory_meaning.proofs.Sequencing.{line_same, line_unit, scoped_only}
@@ -33,7 +33,7 @@ module _ {w : World} {env : Env} where
   all_trans h k = record { at = λ s t. h.at s t ∙ k.at s t }
 
   pub same_scoped : {p q : Acts} → SameAll w env p q → Same w env (Scoped p) (Scoped q)
-  same_scoped h = record { at = λ s t. ap (leave s.scope) (h.at s t) }
+  same_scoped h = record { at = λ s t. ap (leave s) (h.at (inside s) t) }
 
   pub all_named : {p q : Acts} (x : Text) (k : EntryKind) (v : Value) → SameAll w env p q → SameAll w env (Named x k v p) (Named x k v q)
   all_named x k v h = record { at = λ s t. h.at _ t }
@@ -54,7 +54,7 @@ congruent w env = record {
   write = λ must r v. same_refl;
   resolve = λ a next next' h. record { at = λ s t. (h (resolved s.scope a)).at s t };
   ask = λ call next next' h. record { at = λ s t. (h (w.host.answer s.calls call)).at _ t };
-  invoke = λ a next next' ok h. record { at = λ s t. λ i. call_then s (env.invoke a s.scope s.calls t) (λ v u s1 t1. (h v u).at s1 t1 i) };
+  invoke = λ a next next' ok h. record { at = λ s t. λ i. call_then s (env.invoke a s t) (λ v u s1 t1. (h v u).at s1 t1 i) };
   loop = λ a b h. record { at = λ s t. λ i. rounds env.rounds (λ s1 t1. h.at s1 t1 i) s t };
   plain = tt;
 }
@@ -65,4 +65,4 @@ module _ {w : World} {env : Env} where
 
   -- braces around one act
   pub same_braces : OnlyAdds env → (a : Act) → Same w env (Scoped (then_line a (λ v. Only (give v)))) a
-  same_braces adds a = record { at = λ s t. ap (leave s.scope) (line_unit w env a s t) ∙ scoped_only w env adds a s t }
+  same_braces adds a = record { at = λ s t. ap (leave s) (line_unit w env a (inside s) t) ∙ scoped_only w env adds a s t }

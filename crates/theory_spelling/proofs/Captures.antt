@@ -5,7 +5,7 @@ use Rattle.std.specs.Prelude.{if◌then◌else◌}
 use Rattle.std.specs.Option.{option_map}
 use Rattle.rhai_base.specs.Operators.{UpTo, Through, computed, binary}
 use Rattle.rhai_base.specs.Value.{Text, Value, UnitV, BoolV, IntV, FloatV, CharV, TextV, ArrayV, MapV, RangeV, RangeInclusiveV, is_unit, values}
-use Rattle.theory_meaning.specs.Act.{ScopeEntry, IsConstant, World, Env, Store, IsStuck, WrongKind, Halted, At, Act, Fail, Scoped, Named, run_all, leave, restore}
+use Rattle.theory_meaning.specs.Act.{ScopeEntry, IsConstant, World, Env, Store, IsStuck, WrongKind, Halted, At, Act, Fail, Scoped, Named, run_all, leave, restore, inside}
 use Rattle.theory_meaning.specs.ActForms.{give, ◌>>=◌}
 use Rattle.theory_meaning.specs.Core as core
 use Rattle.theory_meaning.specs.Desugar.{callee_by, core_expr, core_exprs, core_pairs, core_stmts}
@@ -123,13 +123,13 @@ module _ (w : World) (env : Env) (around : Bool) where
   -- with names that are taken away with the braces around them
   record Stops (ss : Stmts) (b : Bool) (v : Value) (s : Store) (t : ℕ) : Type 0 where
     names : List ScopeEntry
-    stuck : run_all w env (acts w b (core_stmts around ss) v) s t ≡ At (Halted (IsStuck WrongKind)) (record s { scope = names ++ s.scope }) t
+    stuck : run_all w env (acts w b (core_stmts around ss) v) (inside s) t ≡ At (Halted (IsStuck WrongKind)) (record (inside s) { scope = names ++ s.scope }) t
 
   abbrev Stopping : Stmts → Type 0
   Stopping ss = (b : Bool) (v : Value) (s : Store) (t : ℕ) → Stops ss b v s t
 
   shared_stops : (xs : List Text) (r : Stmt) (ss : Stmts) → Stopping (stmt (shared xs r) ss)
-  shared_stops xs r ss b v s t = record { names = []; stuck = ap (λ es. At (Halted (IsStuck WrongKind)) (record s { scope = es }) t) (restore_self s.scope) }
+  shared_stops xs r ss b v s t = record { names = []; stuck = ap (λ es. At (Halted (IsStuck WrongKind)) (record (inside s) { scope = es }) t) (restore_self s.scope) }
 
   var_stops : (x : Text) (e : Expr) (ss : Stmts) → AtOnce (act w (core_expr around e)) → Stopping ss → Stopping (stmt (Var true false x e) ss)
   var_stops x e ss (gives u g) h b v s t =
@@ -137,16 +137,16 @@ module _ (w : World) (env : Env) (around : Bool) where
       let z = h b UnitV (record s { scope = entry ∷ s.scope }) t in
       record {
         names = z.names ++ entry ∷ [];
-        stuck = (all_line {k = λ u. Named x IsConstant u (acts w b (core_stmts around ss) UnitV)} g (λ u. all_refl)).at s t ∙ z.stuck ∙ ap (λ es. At (Halted (IsStuck WrongKind)) (record s { scope = es }) t) (sym (append_assoc z.names (entry ∷ []) s.scope));
+        stuck = (all_line {k = λ u. Named x IsConstant u (acts w b (core_stmts around ss) UnitV)} g (λ u. all_refl)).at (inside s) t ∙ z.stuck ∙ ap (λ es. At (Halted (IsStuck WrongKind)) (record (inside s) { scope = es }) t) (sym (append_assoc z.names (entry ∷ []) s.scope));
       }
-  var_stops x e ss (is_stuck g) h b v s t = record { names = []; stuck = (all_line {k = λ u. Named x IsConstant u (acts w b (core_stmts around ss) UnitV)} g (λ u. all_refl)).at s t }
+  var_stops x e ss (is_stuck g) h b v s t = record { names = []; stuck = (all_line {k = λ u. Named x IsConstant u (acts w b (core_stmts around ss) UnitV)} g (λ u. all_refl)).at (inside s) t }
 
   stops_alike : {ss rs : Stmts} → Stopping ss → Stopping rs → (b : Bool) (v : Value) → Same w env (Scoped (acts w b (core_stmts around ss) v)) (Scoped (acts w b (core_stmts around rs) v))
   stops_alike h k b v = record {
     at = λ s t.
         let y = h b v s t in
         let z = k b v s t in
-        ap (leave s.scope) y.stuck ∙ ap (λ es. At (Halted (IsStuck WrongKind)) (record s { scope = es }) t) (restore_more y.names s.scope ∙ sym (restore_more z.names s.scope)) ∙ sym (ap (leave s.scope) z.stuck);
+        ap (leave s) y.stuck ∙ ap (λ es. At (Halted (IsStuck WrongKind)) (record s { scope = es }) t) (restore_more y.names s.scope ∙ sym (restore_more z.names s.scope)) ∙ sym (ap (leave s) z.stuck);
   }
 
   -- ---- constants in front of a closure

@@ -1,11 +1,11 @@
 -- Scripts run as they do without what depends on how they are spelled.
 use Rattle.std.proofs.Common.{◌≡◌, ℕ, zero, suc, Bool, true, false, cond, List, [], ◌∷◌, map, Option, Some, None, refl, sym, ap, ◌∙◌, subst}
-use Rattle.theory_meaning.specs.Act.{ScopeEntry, HostCall, Key, World, Env, ScriptCall, Gives, Ended, At, with_turn, run_all}
+use Rattle.theory_meaning.specs.Act.{ScopeEntry, HostCall, Key, World, Env, ScriptCall, Gives, Ended, At, with_turn, run_all, Store}
 use Rattle.theory_meaning.specs.Calls.{same_key}
 use Rattle.theory_meaning.specs.Core as core
 use Rattle.theory_meaning.specs.Desugar.{core_function, core_script, core_stmts}
 use Rattle.theory_meaning.specs.Relations.{OnlyAdds}
-use Rattle.theory_meaning.specs.Run.{key_of, function_of, entered, body_acts, call_body, invoke_at, env_at, EntryPoint, AtStatements, AtFunction, run_at, run_script}
+use Rattle.theory_meaning.specs.Run.{key_of, function_of, entered, body_acts, call_body, invoke_at, env_at, EntryPoint, AtStatements, AtFunction, run_at, run_script, started}
 use Rattle.theory_meaning.specs.Meaning.{acts}
 use Rattle.theory_meaning.specs.Tree.{Function, Script, Block, Stmts, no_stmts, stmt}
 use Rattle.theory_meaning.proofs.Depths.{adds_at}
@@ -59,19 +59,19 @@ find [] k = not_found
 find (f ∷ fs) k = found_or (same_key (key_of (core_function f)) k) f _ _ (find fs k)
 
 module _ (w : World) (fs : List Function) where
-  call_alike : (env : Env) → OnlyAdds env → {o o' : Option core.Function} → Found o o' → (a : ScriptCall) (scope : List ScopeEntry) (calls : List HostCall) (t : ℕ) → call_body true w env o a scope calls t ≡ call_body true w env o' a scope calls t
-  call_alike env adds not_found a scope calls t = refl
-  call_alike env adds (found f) a scope calls t = λ i. with_turn t (entered true (core_function f) a scope calls) (λ st t1. (function_alike w env adds f).at st t1 i)
+  call_alike : (env : Env) → OnlyAdds env → {o o' : Option core.Function} → Found o o' → (a : ScriptCall) (s : Store) (t : ℕ) → call_body true w env o a s t ≡ call_body true w env o' a s t
+  call_alike env adds not_found a s t = refl
+  call_alike env adds (found f) a s t = λ i. with_turn t (entered true (core_function f) a s) (λ st t1. (function_alike w env adds f).at st t1 i)
 
   -- calls at each depth
-  env_path : (d : ℕ) → ((a : ScriptCall) (scope : List ScopeEntry) (calls : List HostCall) (t : ℕ) → invoke_at true w (new fs) d a scope calls t ≡ invoke_at true w (old fs) d a scope calls t) → env_at true w (new fs) d ≡ env_at true w (old fs) d
-  env_path d h = λ i. record { rounds = d; invoke = λ a scope calls t. h a scope calls t i }
+  env_path : (d : ℕ) → ((a : ScriptCall) (s : Store) (t : ℕ) → invoke_at true w (new fs) d a s t ≡ invoke_at true w (old fs) d a s t) → env_at true w (new fs) d ≡ env_at true w (old fs) d
+  env_path d h = λ i. record { rounds = d; invoke = λ a s t. h a s t i }
 
-  invoke_alike : (d : ℕ) (a : ScriptCall) (scope : List ScopeEntry) (calls : List HostCall) (t : ℕ) → invoke_at true w (new fs) d a scope calls t ≡ invoke_at true w (old fs) d a scope calls t
-  invoke_alike zero a scope calls t = refl
-  invoke_alike (suc d) a scope calls t =
-      ap (λ env. call_body true w env (function_of (new fs) a.function) a scope calls t) (env_path d (invoke_alike d))
-      ∙ call_alike (env_at true w (old fs) d) (adds_at true w (old fs) d) (find fs a.function) a scope calls t
+  invoke_alike : (d : ℕ) (a : ScriptCall) (s : Store) (t : ℕ) → invoke_at true w (new fs) d a s t ≡ invoke_at true w (old fs) d a s t
+  invoke_alike zero a s t = refl
+  invoke_alike (suc d) a s t =
+      ap (λ env. call_body true w env (function_of (new fs) a.function) a s t) (env_path d (invoke_alike d))
+      ∙ call_alike (env_at true w (old fs) d) (adds_at true w (old fs) d) (find fs a.function) a s t
 
   env_alike : (d : ℕ) → env_at true w (new fs) d ≡ env_at true w (old fs) d
   env_alike d = env_path d (invoke_alike d)
@@ -80,11 +80,11 @@ module _ (w : World) (fs : List Function) where
 
 at_alike : (w : World) (p : Script) (e : EntryPoint) (scope : List ScopeEntry) (n : ℕ) → run_at true w (core_script (bare_script p)) e scope n ≡ run_at true w (core_script p) e scope n
 at_alike w p AtStatements scope n =
-    ap (λ env. run_all w env (body_acts w (core_stmts false (bare_stmts p.statements))) (record { scope = scope; this = None; calls = [] }) n) (env_alike w p.functions n)
+    ap (λ env. run_all w env (body_acts w (core_stmts false (bare_stmts p.statements))) (started scope) n) (env_alike w p.functions n)
     ∙ (body_alike w _ (adds_at true w (old p.functions) n) p.statements).at _ n
 at_alike w p (AtFunction k this vs) scope n =
-    ap (λ env. call_body true w env (function_of (new p.functions) k) (record { function = k; captures = false; this = this; arguments = vs }) [] [] n) (env_alike w p.functions n)
-    ∙ call_alike w p.functions _ (adds_at true w (old p.functions) n) (find p.functions k) _ [] [] n
+    ap (λ env. call_body true w env (function_of (new p.functions) k) (record { function = k; captures = false; this = this; arguments = vs }) (started []) n) (env_alike w p.functions n)
+    ∙ call_alike w p.functions _ (adds_at true w (old p.functions) n) (find p.functions k) _ (started []) n
 
 -- A script without what depends on how it is spelled has the same runs.
 pub bare_runs : (p : Script) → RunAlike (bare_script p) p

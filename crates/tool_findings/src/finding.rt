@@ -29,6 +29,12 @@ pub enum FindingKind {
     /// A name in a function which the script's own statements declare there.
     #[error("a function does not see `{0}` of {1}")]
     Unseen(String, Place),
+    /// One of a constant, which functions see by `global::`.
+    #[error("a function does not see `{0}` of {1}, but `global::{0}`")]
+    UnseenConstant(String, Place),
+    /// A name by `global::` of which the script's own statements declare no constant.
+    #[error("`{0}` is no constant of the script's own statements")]
+    UndeclaredGlobal(String),
     /// A variable or a constant that nothing asks for.
     #[error("the variable `{0}` is never used")]
     UnusedVariable(String),
@@ -78,7 +84,7 @@ pub enum Severity {
 }
 
 /// The codes of all kinds.
-static CODES: [&str; 17] = [
+static CODES: [&str; 18] = [
     "ill-formed",
     "barred-call",
     "shared-names",
@@ -86,6 +92,7 @@ static CODES: [&str; 17] = [
     "declared-later",
     "ended-block",
     "unseen-in-function",
+    "undeclared-global",
     "unused-variable",
     "unused-parameter",
     "unused-import",
@@ -113,7 +120,8 @@ impl FindingKind {
             FindingKind::Undeclared(_) => "undeclared",
             FindingKind::DeclaredLater(_, _) => "declared-later",
             FindingKind::Ended(_, _) => "ended-block",
-            FindingKind::Unseen(_, _) => "unseen-in-function",
+            FindingKind::Unseen(_, _) | FindingKind::UnseenConstant(_, _) => "unseen-in-function",
+            FindingKind::UndeclaredGlobal(_) => "undeclared-global",
             FindingKind::UnusedVariable(_) => "unused-variable",
             FindingKind::UnusedParameter(_) => "unused-parameter",
             FindingKind::UnusedImport(_) => "unused-import",
@@ -136,6 +144,8 @@ impl FindingKind {
             | FindingKind::DeclaredLater(_, _)
             | FindingKind::Ended(_, _)
             | FindingKind::Unseen(_, _)
+            | FindingKind::UnseenConstant(_, _)
+            | FindingKind::UndeclaredGlobal(_)
             | FindingKind::ConstantFault => Severity::Error,
             _ => Severity::Warning,
         }

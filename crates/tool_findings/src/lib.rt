@@ -7,6 +7,7 @@ mod closures;
 mod dead;
 mod finding;
 mod functions;
+mod globals;
 mod look;
 mod nodes;
 mod scopes;

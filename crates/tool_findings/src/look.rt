@@ -32,6 +32,10 @@ pub(crate) struct Look<'a> {
     modules: HashSet<&'a str>,
     /// The constants that every script sees.
     given: HashSet<&'a str>,
+    /// The constants that the script's own statements declare.
+    pub(crate) constants: HashSet<&'a str>,
+    /// Those that are asked for by `global::`, and where.
+    pub(crate) globals: Vec<(&'a str, Position)>,
     /// The names of the function that nothing in sight declares.
     missing: Vec<Missing<'a>>,
     /// Those of all functions that nothing in theirs declares.
@@ -73,6 +77,8 @@ impl<'a> Look<'a> {
             evaluates: false,
             modules: HashSet::new(alloc),
             given,
+            constants: HashSet::new(alloc),
+            globals: Vec::new(alloc),
             missing: Vec::new(alloc),
             unseen: Vec::new(alloc),
             unused: Vec::new(alloc),
@@ -160,6 +166,7 @@ impl<'a> Look<'a> {
         }
         self.settle(&scopes)?;
         self.settle_unseen(&scopes)?;
+        self.settle_globals()?;
         if let Some(place) = self.shared {
             self.find(FindingKind::Shared, place)?;
         }
@@ -226,11 +233,12 @@ impl<'a> Look<'a> {
     fn settle_unseen(&mut self, scopes: &Scopes<'a>) -> Result<(), OutOfMemory> {
         for missing in mem::replace(&mut self.unseen, Vec::new(self.alloc)) {
             let name = String::from_str(self.alloc, missing.name)?;
-            match scopes.first(missing.name) {
-                Some(_) if self.captures => {}
-                Some(place) => self.find(FindingKind::Unseen(name, Place(place)), missing.place)?,
-                None => self.find(FindingKind::Undeclared(name), missing.place)?,
-            }
+            let kind = match scopes.first(missing.name) {
+                Some(_) if self.captures => continue,
+                Some(place) => self.unseen_kind(name, Place(place)),
+                None => FindingKind::Undeclared(name),
+            };
+            self.find(kind, missing.place)?;
         }
         Ok(())
     }

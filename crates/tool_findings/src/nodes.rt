@@ -79,17 +79,17 @@ impl<'a> Look<'a> {
         Ok(false)
     }
 
-    /// A variable; of one in a module the import is asked for.
+    /// A variable; of one in a module the import is asked for, and `global` is the script's own.
     pub(crate) fn variable(
         &mut self,
         namespace: &'a Namespace,
         name: &'a str,
         position: Position,
     ) -> Result<bool, OutOfMemory> {
-        if namespace.is_empty() {
-            self.ask(name, position)?;
-        } else {
-            self.ask_module(namespace)?;
+        match namespace.path.as_slice() {
+            [] => self.ask(name, position)?,
+            [module] if module.as_str() == "global" => self.ask_global(name, position)?,
+            _ => self.ask_module(namespace)?,
         }
         Ok(false)
     }

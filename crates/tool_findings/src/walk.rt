@@ -24,6 +24,7 @@ impl<'a> Look<'a> {
 
     /// Looks at the script's own statements.
     pub(crate) fn at_script(&mut self, statements: &'a [Stmt]) -> Result<(), OutOfMemory> {
+        self.note_constants(statements)?;
         self.list(statements)?;
         self.end_script()
     }

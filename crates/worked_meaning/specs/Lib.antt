@@ -4,6 +4,7 @@ pub mod DirectedRuns
 pub mod EntryRuns
 pub mod EvaluatedForms
 pub mod FloatRuns
+pub mod GlobalRuns
 pub mod HiddenRuns
 pub mod ModuleRuns
 pub mod MoreRuns

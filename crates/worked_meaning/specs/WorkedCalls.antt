@@ -3,14 +3,14 @@ use Rattle.std.specs.Prelude.{◌≡◌, Bool, true, false, List, [], ◌∷◌,
 use Prim.Native.String.{String}
 use Rattle.rhai_base.specs.Value.{Text, Value, UnitV, TextV, PointerV, values}
 use Rattle.rhai_base.specs.Operators.{computed}
-use Rattle.theory_meaning.specs.Act.{IsVariable, ScopeEntry, Unbound, WrongKind, Key, Gives, Ended, At, ScriptCall, run_all, IsStuck, OutOfTurns, Halted, World, Invoke}
+use Rattle.theory_meaning.specs.Act.{IsVariable, ScopeEntry, Unbound, WrongKind, Key, Gives, Ended, At, Store, ScriptCall, run_all, IsStuck, OutOfTurns, Halted, World, Invoke}
 use Rattle.theory_meaning.specs.Calls.{key, call_named, call_pointer}
 use Rattle.theory_meaning.specs.ActForms.{give}
 use Rattle.theory_meaning.specs.Desugar.{core_expr}
 use Rattle.theory_meaning.specs.Core as core
 use Rattle.theory_meaning.specs.Engine.{Engine}
 use Rattle.theory_meaning.specs.Meaning.{acts}
-use Rattle.theory_meaning.specs.Run.{AtFunction, WithValue, WithThrown, WithStuck, WithoutTurns, Report, entered, env_at, invoke_at, report_of, run_script, world_of}
+use Rattle.theory_meaning.specs.Run.{AtFunction, WithValue, WithThrown, WithStuck, WithoutTurns, Report, called_from, entered, env_at, invoke_at, report_of, run_script, started, world_of}
 use Rattle.theory_meaning.specs.Tree.{Function, Expr, StringConstant, Stmt, ExprStmt, stmts, FnCall, NoToken, exprs}
 use Rattle.theory_meaning.specs.WorkedForms.{int, call, nothing_set, joins, joining, ran_with, ran, ends, asked, i}
 
@@ -162,31 +162,38 @@ pointer_call captures = refl
 captures_kept : core_expr false (FnCall (record { namespace = []; name = codes "f"; captures = true; token = NoToken }) (exprs (int 1 ∷ []))) ≡ core.FnCall (core.ByName (codes "f") true) (core.expr (core.Constant (i 1)) core.no_exprs)
 captures_kept = refl
 
+-- the script's own list calls, with a name and a constant that functions see
+abbrev caller : Store
+caller = record (started (variable "z" (i 3) ∷ [])) { globals = record { name = codes "k"; value = i 4 } ∷ [] }
+
+abbrev body_left : List ScopeEntry → Store
+body_left es = called_from caller es (Some (i 5))
+
 -- the parameters in order, the latest first; of the caller's scope nothing
-enters_alone : invoke_at true world (two_parameters ∷ []) 1 (the_call false) (variable "z" (i 3) ∷ []) (asked "g" [] ∷ []) 4 ≡ At (Ended (Gives (i 7))) (record { scope = variable "y" (i 2) ∷ variable "x" (i 1) ∷ []; this = Some (i 5); calls = asked "g" [] ∷ [] }) 3
+enters_alone : invoke_at true world (two_parameters ∷ []) 1 (the_call false) (record caller { calls = asked "g" [] ∷ [] }) 4 ≡ At (Ended (Gives (i 7))) (record (body_left (variable "y" (i 2) ∷ variable "x" (i 1) ∷ [])) { calls = asked "g" [] ∷ [] }) 3
 enters_alone = refl
 
 -- a call that captures: on top of the caller's scope
-enters_capturing : invoke_at true world (two_parameters ∷ []) 1 (the_call true) (variable "z" (i 3) ∷ []) [] 4 ≡ At (Ended (Gives (i 7))) (record { scope = variable "y" (i 2) ∷ variable "x" (i 1) ∷ variable "z" (i 3) ∷ []; this = Some (i 5); calls = [] }) 3
+enters_capturing : invoke_at true world (two_parameters ∷ []) 1 (the_call true) caller 4 ≡ At (Ended (Gives (i 7))) (body_left (variable "y" (i 2) ∷ variable "x" (i 1) ∷ variable "z" (i 3) ∷ [])) 3
 enters_capturing = refl
 
 -- but where bodies see no scope
-enters_unlent : invoke_at false world (two_parameters ∷ []) 1 (the_call true) (variable "z" (i 3) ∷ []) [] 4 ≡ At (Ended (Gives (i 7))) (record { scope = variable "y" (i 2) ∷ variable "x" (i 1) ∷ []; this = Some (i 5); calls = [] }) 3
+enters_unlent : invoke_at false world (two_parameters ∷ []) 1 (the_call true) caller 4 ≡ At (Ended (Gives (i 7))) (body_left (variable "y" (i 2) ∷ variable "x" (i 1) ∷ [])) 3
 enters_unlent = refl
 
 -- as deep as calls may nest
-too_deep : invoke_at true world (two_parameters ∷ []) 0 (the_call false) [] [] 4 ≡ At (Halted OutOfTurns) (record { scope = []; this = None; calls = [] }) 4
+too_deep : invoke_at true world (two_parameters ∷ []) 0 (the_call false) caller 4 ≡ At (Halted OutOfTurns) (called_from caller [] None) 4
 too_deep = refl
 
 -- no such function
-no_function : invoke_at true world [] 1 (the_call false) [] [] 4 ≡ At (Halted (IsStuck Unbound)) (record { scope = []; this = None; calls = [] }) 4
+no_function : invoke_at true world [] 1 (the_call false) caller 4 ≡ At (Halted (IsStuck Unbound)) (called_from caller [] None) 4
 no_function = refl
 
 -- the value of a list, and that of one whose value isn't wanted
-value_wanted : run_all world (env_at true world [] 0) (acts world true body UnitV) (entered true two_parameters (the_call false) [] []) 0 ≡ At (Ended (Gives (i 7))) (entered true two_parameters (the_call false) [] []) 0
+value_wanted : run_all world (env_at true world [] 0) (acts world true body UnitV) (entered true two_parameters (the_call false) caller) 0 ≡ At (Ended (Gives (i 7))) (entered true two_parameters (the_call false) caller) 0
 value_wanted = refl
 
-value_unwanted : run_all world (env_at true world [] 0) (acts world false body UnitV) (entered true two_parameters (the_call false) [] []) 0 ≡ At (Ended (Gives UnitV)) (entered true two_parameters (the_call false) [] []) 0
+value_unwanted : run_all world (env_at true world [] 0) (acts world false body UnitV) (entered true two_parameters (the_call false) caller) 0 ≡ At (Ended (Gives UnitV)) (entered true two_parameters (the_call false) caller) 0
 value_unwanted = refl
 
 -- ---- a function as entry: it takes a turn, and has `this` but no variables

@@ -2,10 +2,10 @@
 use Rattle.std.specs.Prelude.{◌≡◌, ℕ, true, false, List, [], ◌∷◌, Some, None, codes, refl}
 use Prim.Native.String.{String}
 use Rattle.rhai_base.specs.Value.{Value, UnitV, TextV}
-use Rattle.theory_meaning.specs.Act.{IsVariable, IsConstant, ScopeEntry, Store, Unbound, UnboundThis, WriteToConstant, WrongKind, Ending, Exit, Returns, Breaks, Continues, Throws, Again, Gives, Leaves, IsStuck, OutOfTurns, Ended, Halted, Result, At, Root, OfName, OfThis, Act, Stop, Fail, Then, Turn, Read, Write, Invoke, Loop, Scoped, Acts, Only, Named, Finish, Env, World, run, run_all}
+use Rattle.theory_meaning.specs.Act.{IsVariable, IsConstant, ScopeEntry, Store, Unbound, UnboundThis, WriteToConstant, WrongKind, Ending, Exit, Returns, Breaks, Continues, Throws, Again, Gives, Leaves, IsStuck, OutOfTurns, Ended, Halted, Result, At, Root, OfName, OfThis, Act, Stop, Fail, Then, Turn, Read, Write, Invoke, Loop, Scoped, Acts, Only, Named, Finish, Env, World, inside, run, run_all}
 use Rattle.theory_meaning.specs.ActForms.{give, unit, ◌>>=◌, then_line, on_throw, end_round, again_then, ask_host, ask_method}
 use Rattle.theory_meaning.specs.Engine.{Engine}
-use Rattle.theory_meaning.specs.Run.{AtStatements, report_of, world_of, WithValue, WithThrown, WithStuck, end_of}
+use Rattle.theory_meaning.specs.Run.{AtStatements, called_from, report_of, started, world_of, WithValue, WithThrown, WithStuck, end_of}
 use Rattle.theory_meaning.specs.WorkedForms.{nothing_set, joins, joining, throwing, asked, i}
 
 -- ---- short forms
@@ -21,7 +21,7 @@ abbrev some_names : List ScopeEntry
 some_names = variable "x" (i 1) ∷ variable "y" (i 2) ∷ variable "x" (i 3) ∷ constant "c" (i 4) ∷ []
 
 abbrev stored : List ScopeEntry → Store
-stored es = record { scope = es; this = None; calls = [] }
+stored es = started es
 
 -- a record with two constants of one name, and one that a name of the scope hides
 abbrev with_constants : Engine
@@ -32,7 +32,7 @@ world = world_of with_constants joining []
 
 -- two rounds at most, and a script call that ends as its first argument says: `this` is 6 after it, and its names go
 abbrev calls_as : Ending → Env
-calls_as e = record { rounds = 2; invoke = λ a scope calls t. At (Ended e) (record { scope = variable "z" (i 0) ∷ []; this = Some (i 6); calls = asked "g" [] ∷ calls }) t }
+calls_as e = record { rounds = 2; invoke = λ a s t. At (Ended e) (record (called_from s (variable "z" (i 0) ∷ []) (Some (i 6))) { calls = asked "g" [] ∷ s.calls }) t }
 
 abbrev ran : Act → Store → ℕ → Result
 ran a s t = run world (calls_as (Gives (i 5))) a s t
@@ -109,6 +109,13 @@ left_braces = refl
 -- names of a list stay without braces
 names_stay : run_all world (calls_as (Gives UnitV)) (Named (codes "z") IsVariable (i 10) (Only unit)) (stored []) 0 ≡ ended (Gives UnitV) (stored (variable "z" (i 10) ∷ []))
 names_stay = refl
+
+-- a constant of the script's own list is one that functions see, and that of another list is not
+own_constant : run_all world (calls_as (Gives UnitV)) (Named (codes "z") IsConstant (i 10) (Only unit)) (stored []) 0 ≡ ended (Gives UnitV) (record (stored (constant "z" (i 10) ∷ [])) { globals = record { name = codes "z"; value = i 10 } ∷ [] })
+own_constant = refl
+
+other_constant : run_all world (calls_as (Gives UnitV)) (Named (codes "z") IsConstant (i 10) (Only unit)) (inside (stored [])) 0 ≡ ended (Gives UnitV) (inside (stored (constant "z" (i 10) ∷ [])))
+other_constant = refl
 
 -- variables are reported in the order in which they were declared
 in_order : (report_of AtStatements (ended (Gives UnitV) (stored some_names))).variables ≡ constant "c" (i 4) ∷ variable "x" (i 3) ∷ variable "y" (i 2) ∷ variable "x" (i 1) ∷ []

@@ -10,6 +10,7 @@ pub mod WorkedTables
 pub mod WorkedSwitches
 pub mod WorkedConstants
 pub mod WorkedKnown
+pub mod WorkedGlobals
 pub mod WorkedLists
 pub mod WorkedListConditions
 pub mod WorkedQueries

@@ -2,13 +2,13 @@
 use Rattle.std.specs.Prelude.{◌≡◌, Bool, true, false, [], ◌∷◌, Some, None, codes, refl}
 use Prim.Native.String.{String}
 use Rattle.rhai_base.specs.Value.{Value}
-use Rattle.theory_meaning.specs.Act.{ScopeEntry}
+use Rattle.theory_meaning.specs.Act.{ScopeEntry, OfName}
 use Rattle.theory_meaning.specs.Desugar.{name_kind}
 use Rattle.theory_meaning.specs.WorkedForms.{i}
 use Rattle.theory_rewriting.specs.Known.{Known, look, shadow, shadow_all, Fits}
 
 abbrev constant : String → Value → Known
-constant x v = record { name = codes x; value = Some v }
+constant x v = record { root = OfName (codes x); value = Some v }
 
 abbrev entry : String → Bool → Value → ScopeEntry
 entry x c v = record { name = codes x; kind = name_kind c; value = v }

@@ -35,11 +35,11 @@ abbrev calling : Stmts → ListContext → ListContext
 calling no_stmts l = l
 calling (stmt s ss) l = calling ss (behind s l)
 
-nothing_stays_known : calling (stmts (const "x" (int 1) ∷ ExprStmt (call "eval" []) ∷ const "x" (int 2) ∷ [])) (open_list (under nothing_set)) ≡ closed_list nothing_set
+nothing_stays_known : calling (stmts (const "x" (int 1) ∷ ExprStmt (call "eval" []) ∷ const "x" (int 2) ∷ [])) (open_list (under nothing_set)) ≡ closed_list (under nothing_set)
 nothing_stays_known = refl
 
 -- a constant whose own value calls it, and a call in a list inside: const x = eval(); and { eval() }
-own_call_hides : behind (const "x" (call "eval" [])) (open_list (under nothing_set)) ≡ closed_list nothing_set
+own_call_hides : behind (const "x" (call "eval" [])) (open_list (under nothing_set)) ≡ closed_list (under nothing_set)
 own_call_hides = refl
 
 inner_call_hides_inside : look (calling (stmts (const "x" (int 1) ∷ Block (stmts (ExprStmt (call "eval" []) ∷ [])) ∷ [])) (open_list (under nothing_set))).context.known (codes "x") ≡ Some (i 1)

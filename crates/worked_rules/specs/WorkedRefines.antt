@@ -3,11 +3,12 @@ use Rattle.std.proofs.Common.{◌≡◌, ℕ, inl, inr, true, List, [], ◌∷�
 use Rattle.rhai_base.specs.Value.{Value, UnitV, BoolV}
 use Rattle.theory_meaning.specs.Act.{HostCall, Store, Gives, Unbound, IsStuck, OutOfTurns, Outcome, Ended, Halted, Result, At}
 use Rattle.theory_meaning.specs.Relations.{Begins, here, more}
+use Rattle.theory_meaning.specs.Run.{started}
 use Rattle.theory_meaning.specs.WorkedForms.{asked}
 use Rattle.theory_soundness.specs.Refines.{EndsSo, RunRefines}
 
 abbrev store : List HostCall → Store
-store cs = record { scope = []; this = None; calls = cs }
+store cs = record (started []) { calls = cs }
 
 abbrev gives : Value → ℕ → Result
 gives v left = At (Ended (Gives v)) (store []) left

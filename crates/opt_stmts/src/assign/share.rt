@@ -3,7 +3,7 @@
 #![tactic(auto, using(ast_types::specs::Reading::shapes, crate::proofs::Names::steps))]
 
 ghost use Rattle.std.specs.Prelude.{◌≡◌, ◌&&◌, not, true, Bool, is_some};
-ghost use Rattle.opt_base.specs.State.{known_of, progress};
+ghost use Rattle.opt_base.specs.State.{progress};
 ghost use Rattle.theory_meaning.specs.Engine.{Engine};
 ghost use Rattle.theory_meaning.specs.Tree.{Share};
 ghost use Rattle.ast_types.specs.Reading.{shared_names, stmt_of};
@@ -24,14 +24,14 @@ type SharedName = (Ident, Option<NonZeroUsize>);
 
 /// Whether a shared name is known as a constant.
 fn is_known(state: &OptimizerState<'_>, name: &SharedName) -> bool
-    ensures { result ≡ is_some (look (known_of state.now.entries) name.now.0.name) }
+    ensures { result ≡ is_some (look (progress state.now).known name.now.0.name) }
 {
     state.find_literal_constant(name.0.as_str()).is_some()
 }
 
 /// Whether one of these names is.
 fn knows_some(state: &OptimizerState<'_>, names: &[SharedName]) -> bool
-    ensures { result ≡ settled.knows_some (known_of state.now.entries) (shared_names names.now) }
+    ensures { result ≡ settled.knows_some (progress state.now).known (shared_names names.now) }
 {
     for name in names {
         if is_known(state, name) {
@@ -43,7 +43,7 @@ fn knows_some(state: &OptimizerState<'_>, names: &[SharedName]) -> bool
 
 /// Names that are known as constants go, in the memory of their list.
 fn keep_unknown(alloc: Global, state: &OptimizerState<'_>, names: &mut Seq<SharedName>)
-    ensures { shared_names names.new ≡ unknown (known_of state.now.entries) (shared_names names.old) }
+    ensures { shared_names names.new ≡ unknown (progress state.now).known (shared_names names.old) }
 {
     let mut left = replace(names, Seq::new(alloc)).into_vec();
     left.retain(|name| !is_known(state, name));
@@ -52,7 +52,7 @@ fn keep_unknown(alloc: Global, state: &OptimizerState<'_>, names: &mut Seq<Share
 
 /// Of shared names those that are known go.
 fn share_known(state: &mut OptimizerState<'_>, names: &mut Boxed<Seq<SharedName>>)
-    requires { settled.knows_some (known_of state.now.entries) (shared_names names.now) ≡ true }
+    requires { settled.knows_some (progress state.now).known (shared_names names.now) ≡ true }
     ensures { (r : Engine) (w : Bool)
         → Fires r w (progress state.old) (progress state.new) (Share (shared_names names.old))
         (Share (shared_names names.new)) }
@@ -76,7 +76,7 @@ pub fn step_share(state: &mut OptimizerState<'_>, statement: &mut Stmt) -> NodeS
     ensures answer { result
         ≡ answer
         (not (settled.shares_nothing (stmt_of statement.old))
-        && settled.is_settled_share (known_of state.old.entries) (stmt_of statement.old)) }
+        && settled.is_settled_share (progress state.old).known (stmt_of statement.old)) }
     ensures step { (r : Engine) (w : Bool)
         → StmtStep result r w (progress state.old) (progress state.new) (stmt_of statement.old)
         (stmt_of statement.new) }

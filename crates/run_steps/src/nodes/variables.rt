@@ -1,14 +1,15 @@
-//! What names stand for: a name or `this`, where a name stands, and a name in a module.
+//! What names stand for: a name, a constant of the script's own list or `this`, where they stand, and a name in a module.
 
-#![tactic(auto, using(ast_types::specs::Reading::shapes, rhai_base::specs::Reading::kinds, run_state::proofs::Variables::resolving))]
+#![tactic(auto, using(ast_types::specs::Reading::shapes, rhai_base::specs::Reading::kinds, run_state::proofs::Variables::resolving, crate::proofs::Globals::latest))]
 
-ghost use Rattle.std.specs.Prelude.{◌≡◌, ◌++◌, codes, map, MatchOption, IfOk, OnOk, option_map};
+ghost use Rattle.std.specs.Prelude.{◌≡◌, ◌++◌, codes, cond, map, MatchOption, IfOk, OnOk, Some, None, option_map};
 ghost use Rattle.std.specs.String.{string_bytes};
 ghost use Rattle.ast_types.specs.Reading.{expr_of, path_of};
 ghost use Rattle.rhai_base.specs.Reading.{value_of};
 ghost use Rattle.theory_meaning.specs.Act as act;
 ghost use Rattle.theory_meaning.specs.Act.{resolved};
-ghost use Rattle.run_state.specs.Entries.{scope_meant};
+ghost use Rattle.theory_meaning.specs.Engine.{constant_named};
+ghost use Rattle.run_state.specs.Entries.{binding_meant, scope_meant};
 ghost use Rattle.run_state.specs.Variables.{IsLatest, IsMissing};
 ghost use Rattle.run_steps.specs.Variables.{root_meant, qualified_in};
 ghost use Rattle.theory_meaning.specs.Desugar as desugar;
@@ -18,11 +19,13 @@ use rhai_base::{Dynamic, Ident, ImmutableString, Namespace};
 use run_state::Entry;
 use std::alloc::{AllocError, Global};
 
-/// What has a value that can be replaced.
+/// What has a value of its own.
 #[derive(Clone, Copy)]
 pub enum Root<'a> {
     /// A name.
     Name(&'a ImmutableString),
+    /// A constant that the script's own list has declared, by `global::`.
+    Global(&'a ImmutableString),
     /// `this`
     This,
 }
@@ -35,6 +38,20 @@ pub fn position(scope: &[Entry], name: &str) -> Option<usize>
     while let Some((last, others)) = rest.split_last() {
         if last.is_called(name) {
             return Some(others.len());
+        }
+        rest = others;
+    }
+    None
+}
+
+/// The value of the latest constant of a name.
+pub fn latest_constant<'s>(constants: &'s [Entry], name: &str) -> Option<&'s Dynamic>
+    ensures { option_map (λ v. value_of v.now) result ≡ constant_named (map binding_meant constants.now) name.now }
+{
+    let mut rest = constants;
+    while let Some((last, others)) = rest.split_last() {
+        if last.name.as_str() == name {
+            return Some(&last.value);
         }
         rest = others;
     }
@@ -106,6 +123,28 @@ fn push_module(text: &mut String, name: &str) -> Result<(), AllocError>
     Ok(())
 }
 
+/// What a name with its modules' stands for that has a value of its own. `global` is no module of the host.
+pub fn named_root<'a>(namespace: &Namespace, name: &'a ImmutableString) -> Option<Root<'a>>
+    ensures { option_map root_meant result ≡ desugar.name_root (path_of namespace.now) name.now }
+{
+    match namespace.path.as_slice() {
+        [] => Some(Root::Name(name)),
+        [module] => global_root(module.as_str(), name),
+        _ => None,
+    }
+}
+
+fn global_root<'a>(module: &str, name: &'a ImmutableString) -> Option<Root<'a>>
+    ensures { option_map root_meant result
+        ≡ cond (desugar.is_global module.now) (Some (act.OfGlobal name.now)) None }
+{
+    if module == "global" {
+        Some(Root::Global(name))
+    } else {
+        None
+    }
+}
+
 /// What an expression names that has a value of its own.
 pub fn root_of(expr: &Expr) -> Option<Root<'_>>
     ensures { option_map root_meant result ≡ desugar.root_of (expr_of expr.now) }
@@ -113,11 +152,7 @@ pub fn root_of(expr: &Expr) -> Option<Root<'_>>
     match expr {
         Expr::Variable(variable, _, _) => {
             let (_, name, namespace) = variable.get();
-            if namespace.is_empty() {
-                Some(Root::Name(name))
-            } else {
-                None
-            }
+            named_root(namespace, name)
         }
         Expr::ThisPtr(_) => Some(Root::This),
         _ => None,

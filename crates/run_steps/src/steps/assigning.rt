@@ -46,7 +46,7 @@ impl<'a, H: Host> Machine<'a, H> {
         }
     }
 
-    /// Writes a value, which must be possible, and answers unit.
+    /// Writes a value, which must be possible, and answers unit. A constant is stuck.
     fn write_value(
         &self,
         state: &mut State,
@@ -58,6 +58,7 @@ impl<'a, H: Host> Machine<'a, H> {
     {
         match root {
             Root::Name(name) => self.write_name(state, name.as_str(), value)?,
+            Root::Global(name) => return self.write_global(state, name),
             Root::This => self.write_this(state, value)?,
         }
         Ok(Dynamic::Unit)

@@ -4,7 +4,7 @@
 
 ghost use Rattle.std.specs.Prelude.{◌≡◌, IfOk};
 ghost use Rattle.rhai_base.specs.Reading.{value_of};
-ghost use Rattle.theory_meaning.specs.Act.{OfName};
+ghost use Rattle.theory_meaning.specs.Act.{OfName, OfGlobal};
 ghost use Rattle.theory_meaning.specs.Shape.{is_unit};
 ghost use Rattle.run_places.specs.Reading.{key_meant, or_unit, part_value};
 ghost use Rattle.run_steps.specs.Setting.{setting};
@@ -15,7 +15,7 @@ ghost use Rattle.theory_meaning.specs.Places as places;
 ghost use Rattle.run_steps.specs.declared.steps.placing.Current.TheVariants as kind;
 ghost use Rattle.run_steps.specs.Placing as spec;
 
-use crate::nodes::{Root, position};
+use crate::nodes::{Root, latest_constant, position};
 use crate::steps::machine::Machine;
 use rhai_base::{Dynamic, Seq};
 use run_host::{Host, Stuck};
@@ -23,7 +23,7 @@ use run_places::{Part, PlaceKey, along};
 use run_state::{Interrupt, State};
 use std::alloc::AllocError;
 
-/// A name or `this`, and the way on from there.
+/// A name, a constant of the script's own list or `this`, and the way on from there.
 #[derive(Drop)]
 pub struct Place<'a> {
     /// What the way starts from.
@@ -42,7 +42,7 @@ pub enum Current<'a> {
 }
 
 impl<'a, H: Host> Machine<'a, H> {
-    /// The value of a name or of `this`.
+    /// The value of a name, of a constant of the script's own list or of `this`.
     pub(crate) fn root_value<'s>(
         &'s self,
         state: &'s State,
@@ -53,6 +53,7 @@ impl<'a, H: Host> Machine<'a, H> {
     {
         match root {
             Root::Name(name) => self.name_value(state, name.as_str()),
+            Root::Global(name) => global_value(state, name.as_str()),
             Root::This => match &state.this {
                 Some(value) => Ok(value),
                 None => Err(Stuck::UnboundThis),
@@ -165,6 +166,16 @@ impl<'a, H: Host> Machine<'a, H> {
             },
             Current::Loose(_) => Ok(()),
         }
+    }
+}
+
+/// The value of a constant of the script's own list.
+fn global_value<'s>(state: &'s State, name: &str) -> Result<&'s Dynamic, Stuck>
+    ensures { (here : _) → spec.HasRoot here (store_of state.now) (OfGlobal name.now) result }
+{
+    match latest_constant(state.globals.as_slice(), name) {
+        Some(value) => Ok(value),
+        None => Err(Stuck::Unbound),
     }
 }
 

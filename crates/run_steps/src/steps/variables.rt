@@ -1,4 +1,4 @@
-//! Names and `this`: what stands there; modules.
+//! Names, constants of the script's own list and `this`: what stands there; modules.
 
 #![tactic(auto, using(ast_types::specs::Reading::shapes, rhai_base::specs::Reading::kinds))]
 
@@ -13,15 +13,16 @@ ghost use Rattle.run_state.specs.declared.state.State.{State};
 ghost use Rattle.theory_meaning.specs.Desugar as desugar;
 ghost use Rattle.theory_meaning.specs.Meaning as meaning;
 
-use crate::nodes::{Root, qualified};
+use crate::nodes::{Root, named_root, qualified};
 use crate::steps::machine::Machine;
 use rhai_base::{Dynamic, ImmutableString, Namespace};
 use run_host::{Host, Stuck};
 use run_state::{Interrupt, State};
 
 impl<'a, H: Host> Machine<'a, H> {
-    /// A variable's value: that of its latest entry, or of a module of the host,
-    /// which an alias may name.
+    /// A variable's value: that of its latest entry, of the latest constant of the script's own list by `global::`, or of
+    /// a module of the host, which an alias may name. rhai has a module `global` where the script has functions and
+    /// declares a constant; where there is none of the name, this is stuck and rhai ends with an error.
     #[inline(never)]
     pub fn variable(
         &self,
@@ -32,8 +33,8 @@ impl<'a, H: Host> Machine<'a, H> {
         ensures { RunsCore (setting H.answers H.modules self.now) (desugar.variable (path_of namespace.now) name.now)
             state.now result state.now }
     {
-        if namespace.is_empty() {
-            return self.read(state, Root::Name(name));
+        if let Some(root) = named_root(namespace, name) {
+            return self.read(state, root);
         }
         let scope = state.scope.as_slice();
         let qualified = qualified(self.alloc, scope, namespace, name.as_str())?;
@@ -43,7 +44,7 @@ impl<'a, H: Host> Machine<'a, H> {
         }
     }
 
-    /// The value of a name or of `this`.
+    /// The value of what has one of its own.
     #[inline(never)]
     pub fn read(&self, state: &State, root: Root) -> Result<Dynamic, Interrupt>
         ensures { Runs (setting H.answers H.modules self.now) (Acting (Read (root_meant root.entry))) state.now result

@@ -5,11 +5,11 @@
 ghost use Rattle.std.specs.Prelude.{◌≡◌, true, map};
 ghost use Rattle.rhai_base.specs.Reading.{value_of};
 ghost use Rattle.rhai_base.specs.Value.{UnitV, Value};
-ghost use Rattle.theory_meaning.specs.Act.{OfName, OfThis, Write};
+ghost use Rattle.theory_meaning.specs.Act.{OfName, OfGlobal, OfThis, Write};
 ghost use Rattle.run_places.specs.Reading.{key_meant};
 ghost use Rattle.run_state.specs.declared.state.State.{State};
 ghost use Rattle.run_steps.specs.Setting.{setting};
-ghost use Rattle.run_state.specs.Runs.{Acting, Leads, given};
+ghost use Rattle.run_state.specs.Runs.{Acting, Leads, Runs, given};
 ghost use Rattle.run_state.specs.Variables.{IsMissing};
 ghost use Rattle.theory_meaning.specs.Places as places;
 ghost use Rattle.run_steps.specs.Placing as spec;
@@ -17,7 +17,7 @@ ghost use Rattle.run_steps.specs.Placing as spec;
 use crate::nodes::{Root, position};
 use crate::steps::machine::Machine;
 use crate::steps::placing::Place;
-use rhai_base::Dynamic;
+use rhai_base::{Dynamic, ImmutableString};
 use run_host::{Host, Stuck};
 use run_places::{PlaceKey, along, replace_along};
 use run_state::{Interrupt, State};
@@ -72,6 +72,7 @@ impl<'a, H: Host> Machine<'a, H> {
         let keys = place.keys.as_slice();
         match place.root {
             Root::Name(name) => self.write_in_name(state, must, name.as_str(), keys, value),
+            Root::Global(name) => self.write_in_global(state, must, name, keys),
             Root::This => self.write_in_this(state, must, keys, value),
         }
     }
@@ -116,6 +117,42 @@ impl<'a, H: Host> Machine<'a, H> {
         match self.info.constant_named(name) {
             Some(constant) => constant_end(must, constant, keys),
             None => Err(Interrupt::Stuck(Stuck::Unbound)),
+        }
+    }
+
+    /// A constant of the script's own list is not assigned to.
+    pub(crate) fn write_global(
+        &self,
+        state: &State,
+        name: &ImmutableString,
+    ) -> Result<Dynamic, Interrupt>
+        ensures { (w : Value)
+            → Runs (setting H.answers H.modules self.now) (Acting (Write true (OfGlobal name.now) w)) state.now result
+            state.now }
+    {
+        match self.write_in_global(state, true, name, &[]) {
+            Ok(()) => Ok(Dynamic::Unit),
+            Err(stop) => Err(stop),
+        }
+    }
+
+    /// A constant of the script's own list stays as it is, in functions too.
+    pub(crate) fn write_in_global(
+        &self,
+        state: &State,
+        must: bool,
+        name: &ImmutableString,
+        keys: &[PlaceKey],
+    ) -> Result<(), Interrupt>
+        ensures { (w : Value)
+            → Leads (setting H.answers H.modules self.now)
+            (Acting
+            (places.write_place must (record { root = OfGlobal name.now; keys = map key_meant keys.now }) w))
+            state.now result state.now (λ z. given UnitV) }
+    {
+        match self.root_value(state, Root::Global(name)) {
+            Ok(constant) => constant_end(must, constant, keys),
+            Err(stuck) => Err(Interrupt::Stuck(stuck)),
         }
     }
 

@@ -45,7 +45,7 @@ pub record Lasting (P : Around → Node → Type 0) (l : Bool) : Type 0 where
   pub again : {a : Around} {n n' : Node} → SameNode n n' → P a n → P a n'
   pub constant : (v : Value) → is_plain_value v ≡ true → P (whole l) (OfExpr (constant_for v))
   pub value : (v : Value) → P (whole l) (OfExpr (constant_of v))
-  pub pointer : (x f : Text) → P (whole l) (OfExpr (Variable [] x)) → P (whole l) (OfExpr (pointer_call f))
+  pub pointer : (ns : List Text) (x f : Text) → P (whole l) (OfExpr (Variable ns x)) → P (whole l) (OfExpr (pointer_call f))
   pub noop : P (whole l) (OfStmt Noop)
   pub branching : (e : Expr) (a b : Stmts) → P (whole l) (OfStmt (If e a b))
   pub block : (ss : Stmts) → P (whole l) (OfStmt (Block ss))

@@ -1,7 +1,8 @@
 -- Acts that write nothing: the scope after them is as it was.
+use Rattle.theory_meaning.specs.Engine.{constant_named}
 use Rattle.std.proofs.Common.{◌≡◌, ℕ, zero, suc, List, [], ◌∷◌, ◌++◌, Option, Some, None, refl, ◌∙◌, subst}
 use Rattle.rhai_base.specs.Value.{Text, Value}
-use Rattle.theory_meaning.specs.Act.{EntryKind, ScopeEntry, HostCall, Answer, World, Store, Ending, Leaves, Again, Ended, Halted, Stuck, Root, OfName, OfThis, Result, At, Act, Stop, Fail, Then, Turn, Read, Resolve, AskHost, Loop, Scoped, Acts, Only, Do, Named, Env, and_then, with_turn, leave, rounds, on_again, read, read_this, read_root, found, resolved, restore, run, run_all}
+use Rattle.theory_meaning.specs.Act.{EntryKind, ScopeEntry, HostCall, Answer, World, Store, Ending, Leaves, Again, Ended, Halted, Stuck, Root, OfName, OfThis, Result, At, Act, Stop, Fail, Then, Turn, Read, Resolve, AskHost, Loop, Scoped, Acts, Only, Do, Named, Env, and_then, with_turn, leave, rounds, on_again, read, read_this, read_root, found, resolved, restore, run, run_all, OfGlobal, read_global, declared, inside}
 use Rattle.theory_meaning.specs.Relations.{store_of}
 use Rattle.theory_meaning.proofs.Relations.{Grows, kept, pushed}
 use Rattle.theory_meaning.proofs.Preserves.{keeps_refl, restore_keeps, restore_pushed}
@@ -71,16 +72,21 @@ same_read : (o : Option ScopeEntry) (s : Store) (t : ℕ) → Same s.scope (read
 same_read None s t = record { is = refl }
 same_read (Some e) s t = record { is = refl }
 
+same_read_global : (o : Option Value) (s : Store) (t : ℕ) → Same s.scope (read_global o s t)
+same_read_global None s t = record { is = refl }
+same_read_global (Some v) s t = record { is = refl }
+
 same_read_this : (o : Option Value) (s : Store) (t : ℕ) → Same s.scope (read_this o s t)
 same_read_this None s t = record { is = refl }
 same_read_this (Some v) s t = record { is = refl }
 
 same_root : (w : World) (r : Root) (s : Store) (t : ℕ) → Same s.scope (read_root w r s t)
 same_root w (OfName x) s t = same_read (found w.engine.constants s.scope x) s t
+same_root w (OfGlobal x) s t = same_read_global (constant_named s.globals x) s t
 same_root w OfThis s t = same_read_this s.this s t
 
-same_leave : (es : List ScopeEntry) (r : Result) → On es r → Same es (leave es r)
-same_leave es (At o s t) h = record { is = restore_above h.is }
+same_leave : (old : Store) (r : Result) → On old.scope r → Same old.scope (leave old r)
+same_leave old (At o s t) h = record { is = restore_above h.is }
 
 module _ (w : World) (env : Env) where
   mutual
@@ -93,10 +99,10 @@ module _ (w : World) (env : Env) where
     still (still_resolve {x = x} h) s t = still (h (resolved s.scope x)) s t
     still (still_ask {c = c} h) s t = record { is = (still (h (w.host.answer s.calls c)) (record s { calls = s.calls ++ c ∷ [] }) t).is }
     still (still_loop {a = a} h) s t = same_rounds env.rounds (run w env a) (λ s1 t1. still h s1 t1) s t
-    still (still_scoped {p = p} h) s t = same_leave s.scope (run_all w env p s t) (still_list h s t)
+    still (still_scoped {p = p} h) s t = same_leave s (run_all w env p (inside s) t) (still_list h (inside s) t)
 
     still_list : {p : Acts} → StillList p → (s : Store) (t : ℕ) → On s.scope (run_all w env p s t)
     still_list (still_only {a = a} h) s t = record { is = subst (λ fs. Above fs (store_of (run w env a s t)).scope) (still h s t).is level }
     still_list (still_do {a = a} h k) s t = on_then s.scope (run w env a s t) (still h s t) _ (λ e s1 t1. still_list (k e) s1 t1)
     still_list (still_named {x = x} {c = c} {v = v} h) s t =
-        let q = still_list h (record s { scope = record { name = x; kind = c; value = v } ∷ s.scope }) t in record { is = above_tail q.is }
+        let q = still_list h (declared x c v s) t in record { is = above_tail q.is }

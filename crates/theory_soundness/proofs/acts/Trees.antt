@@ -9,7 +9,7 @@ use Rattle.theory_meaning.specs.Calls.{called}
 use Rattle.theory_meaning.specs.Chains.{Access, OfProperty, OfIndex, OfMethod, applied, assign_last, assign_root}
 use Rattle.theory_meaning.specs.Control.{ArmActs, try_arm, first_arm, answer_of, default_of, chosen, switch_on, do_loop, for_all, try_of}
 use Rattle.theory_meaning.specs.Core as core
-use Rattle.theory_meaning.specs.Desugar.{variable, alias, name_target, root_of, based, ends_in_call, part_target, guard_by, try_by, callee_by, return_kind, break_kind, member_of, steps_of, target_of, core_expr, core_exprs, core_pairs, core_arms, core_maybe, core_stmt, core_stmts}
+use Rattle.theory_meaning.specs.Desugar.{variable, alias, name_target, root_of, based, ends_in_call, part_target, guard_by, try_by, callee_by, return_kind, break_kind, member_of, steps_of, target_of, core_expr, core_exprs, core_pairs, core_arms, core_maybe, core_stmt, core_stmts, is_global, in_module}
 use Rattle.theory_meaning.specs.Meaning.{module_known, module_at, exporting, act, with_args, with_pairs, both, either, first_some, at_base, access, steps, assign_steps, assign, arm_acts, loop, deed, line, acts, exit, wanted_value}
 use Rattle.theory_meaning.specs.Places.{Current, refreshed}
 use Rattle.theory_meaning.specs.Plain.{all_true}
@@ -104,7 +104,11 @@ module _ (w : World) (C : Act → Type 0) (D : Acts → Type 0) (P : Node → Bo
 
   variable_held : (ns : List Text) (x : Text) → C (act w (variable ns x))
   variable_held [] x = g.read _
-  variable_held (n ∷ ns) x = g.resolve n (λ m. module_held _)
+  variable_held (n ∷ []) x = in_module_held (is_global n) where
+    in_module_held : (b : Bool) → C (act w (in_module b n x))
+    in_module_held true = g.read _
+    in_module_held false = g.resolve n (λ m. module_held _)
+  variable_held (n ∷ m ∷ ns) x = g.resolve n (λ a. module_held _)
 
   known_held : (o : Option Text) → C (module_known o)
   known_held None = g.fail _

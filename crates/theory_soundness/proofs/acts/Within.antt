@@ -1,7 +1,8 @@
 -- Acts by the values that they may give and the ways in which they may leave.
+use Rattle.theory_meaning.specs.Engine.{constant_named}
 use Rattle.std.proofs.Common.{◌≡◌, ℕ, zero, suc, Bool, true, false, List, ◌∷◌, [], ◌++◌, Option, Some, None, refl, ap}
 use Rattle.rhai_base.specs.Value.{Text, Value, UnitV}
-use Rattle.theory_meaning.specs.Act.{World, EntryKind, is_constant, resolved, ScopeEntry, HostCall, Answer, Answers, AnswersThrow, Store, Exit, Returns, Breaks, Continues, Throws, Again, Ending, Gives, Leaves, Stuck, Ended, Halted, Result, At, Root, OfName, OfThis, ScriptCall, Act, Stop, Fail, Then, Turn, Read, Write, Resolve, AskHost, Invoke, Loop, Scoped, Acts, Only, Named, Env, and_then, with_turn, call_then, found, read, read_this, read_root, write_at, write, write_this, write_root, leave, returned, rounds, on_again, run, run_all}
+use Rattle.theory_meaning.specs.Act.{World, EntryKind, is_constant, resolved, ScopeEntry, HostCall, Answer, Answers, AnswersThrow, Store, Exit, Returns, Breaks, Continues, Throws, Again, Ending, Gives, Leaves, Stuck, Ended, Halted, Result, At, Root, OfName, OfThis, ScriptCall, Act, Stop, Fail, Then, Turn, Read, Write, Resolve, AskHost, Invoke, Loop, Scoped, Acts, Only, Named, Env, and_then, with_turn, call_then, found, read, read_this, read_root, write_at, write, write_this, write_root, leave, returned, rounds, on_again, run, run_all, OfGlobal, read_global, write_global, declared, inside}
 use Rattle.theory_meaning.specs.ActForms.{give, value_then, ◌>>=◌, each_value, then_line, choose, truth, branch, if_true, answered, end_round}
 use Rattle.theory_meaning.specs.Control.{round}
 
@@ -29,7 +30,7 @@ ResultIn L V (At (Halted h) s t) = Unit {0}
 
 -- so do script calls
 abbrev pub CallsIn : (Exit → Type 0) → Env → Type 0
-CallsIn L env = (a : ScriptCall) (scope : List ScopeEntry) (calls : List HostCall) (t : ℕ) → ResultIn L AnyValue (env.invoke a scope calls t)
+CallsIn L env = (a : ScriptCall) (s : Store) (t : ℕ) → ResultIn L AnyValue (env.invoke a s t)
 
 -- ---- results
 
@@ -47,7 +48,7 @@ any_result (At (Ended (Leaves x)) s t) = tt
 any_result (At (Halted h) s t) = tt
 
 pub any_calls : (env : Env) → CallsIn AnyExit env
-any_calls env a scope calls t = any_result (env.invoke a scope calls t)
+any_calls env a s t = any_result (env.invoke a s t)
 
 module _ (L : Exit → Type 0) (V : Value → Type 0) where
   in_then : (L' : Exit → Type 0) (V' : Value → Type 0) (r : Result) (next : Ending → Store → ℕ → Result) → ResultIn L V r → ((e : Ending) → EndingIn L V e → (s : Store) (t : ℕ) → ResultIn L' V' (next e s t)) → ResultIn L' V' (and_then r next)
@@ -58,9 +59,9 @@ module _ (L : Exit → Type 0) (V : Value → Type 0) where
   in_turn zero s next h = tt
   in_turn (suc t) s next h = h t
 
-  in_leave : (es : List ScopeEntry) (r : Result) → ResultIn L V r → ResultIn L V (leave es r)
-  in_leave es (At (Ended e) s t) h = h
-  in_leave es (At (Halted f) s t) h = tt
+  in_leave : (old : Store) (r : Result) → ResultIn L V r → ResultIn L V (leave old r)
+  in_leave old (At (Ended e) s t) h = h
+  in_leave old (At (Halted f) s t) h = tt
 
   in_again : (e : Ending) (next : Store → ℕ → Result) → EndingIn L V e → ((s : Store) (t : ℕ) → ResultIn L V (next s t)) → (s : Store) (t : ℕ) → ResultIn L V (on_again e next s t)
   in_again (Leaves Again) next h k s t = k s t
@@ -85,17 +86,27 @@ module _ (L : Exit → Type 0) (V : Value → Type 0) where
   in_write h must None x v s t = tt
   in_write h must (Some e) x v s t = in_write_at h must (is_constant e.kind) x v s t
 
+  in_write_global : V UnitV → (must : Bool) (o : Option Value) (s : Store) (t : ℕ) → ResultIn L V (write_global must o s t)
+  in_write_global h must None s t = tt
+  in_write_global h true (Some v) s t = tt
+  in_write_global h false (Some v) s t = h
+
   in_write_this : V UnitV → (o : Option Value) (v : Value) (s : Store) (t : ℕ) → ResultIn L V (write_this o v s t)
   in_write_this h None v s t = tt
   in_write_this h (Some u) v s t = h
 
   in_write_root : V UnitV → (w : World) (must : Bool) (r : Root) (v : Value) (s : Store) (t : ℕ) → ResultIn L V (write_root w must r v s t)
   in_write_root h w must (OfName x) v s t = in_write h must (found w.engine.constants s.scope x) x v s t
+  in_write_root h w must (OfGlobal x) v s t = in_write_global h must (constant_named s.globals x) s t
   in_write_root h w must OfThis v s t = in_write_this h s.this v s t
 
 read_any : (L : Exit → Type 0) (o : Option ScopeEntry) (s : Store) (t : ℕ) → ResultIn L AnyValue (read o s t)
 read_any L None s t = tt
 read_any L (Some e) s t = tt
+
+read_global_any : (L : Exit → Type 0) (o : Option Value) (s : Store) (t : ℕ) → ResultIn L AnyValue (read_global o s t)
+read_global_any L None s t = tt
+read_global_any L (Some v) s t = tt
 
 read_this_any : (L : Exit → Type 0) (o : Option Value) (s : Store) (t : ℕ) → ResultIn L AnyValue (read_this o s t)
 read_this_any L None s t = tt
@@ -103,6 +114,7 @@ read_this_any L (Some v) s t = tt
 
 read_root_any : (L : Exit → Type 0) (w : World) (r : Root) (s : Store) (t : ℕ) → ResultIn L AnyValue (read_root w r s t)
 read_root_any L w (OfName x) s t = read_any L (found w.engine.constants s.scope x) s t
+read_root_any L w (OfGlobal x) s t = read_global_any L (constant_named s.globals x) s t
 read_root_any L w OfThis s t = read_this_any L s.this s t
 
 -- what comes after a value that is unit may take it for unit
@@ -163,7 +175,7 @@ module _ (w : World) (env : Env) where
   loop_in {L = L} {V = V} {a = a} h = record { by = λ s t. in_rounds L V env.rounds (run w env a) (λ s1 t1. h.by s1 t1) s t }
 
   pub scoped_in : {L : Exit → Type 0} {V : Value → Type 0} {p : Acts} → WithinAll L V p → Within L V (Scoped p)
-  scoped_in {L = L} {V = V} {p = p} h = record { by = λ s t. in_leave L V s.scope (run_all w env p s t) (h.by s t) }
+  scoped_in {L = L} {V = V} {p = p} h = record { by = λ s t. in_leave L V s (run_all w env p (inside s) t) (h.by (inside s) t) }
 
   pub read_in : {L : Exit → Type 0} (r : Root) → Within L AnyValue (Read r)
   read_in {L = L} r = record { by = λ s t. read_root_any L w r s t }
@@ -182,7 +194,7 @@ module _ (w : World) (env : Env) where
   answered_in th h (AnswersThrow v) = in_stop (Throws v) (th v)
 
   pub invoke_in : {L : Exit → Type 0} {V : Value → Type 0} → CallsIn L env → (a : ScriptCall) {next : Value → Option Value → Act} → ((v : Value) (u : Option Value) → Within L V (next v u)) → Within L V (Invoke a next)
-  invoke_in {L = L} {V = V} calls a h = record { by = λ s t. in_call L V s (env.invoke a s.scope s.calls t) _ (calls a s.scope s.calls t) (λ v u s1 t1. (h v u).by s1 t1) }
+  invoke_in {L = L} {V = V} calls a h = record { by = λ s t. in_call L V s (env.invoke a s t) _ (calls a s t) (λ v u s1 t1. (h v u).by s1 t1) }
 
   -- ---- lists
 
@@ -197,7 +209,7 @@ module _ (w : World) (env : Env) where
   line_in {L = L} {V = V} {V' = V'} {a = a} h k = record { by = λ s t. in_then L V L V' (run w env a s t) _ (h.by s t) (λ e j s1 t1. (each_in {V = V} k e j).by s1 t1) }
 
   pub named_in : {L : Exit → Type 0} {V : Value → Type 0} (x : Text) (b : EntryKind) (v : Value) {p : Acts} → WithinAll L V p → WithinAll L V (Named x b v p)
-  named_in x b v h = record { by = λ s t. h.by (record s { scope = record { name = x; kind = b; value = v } ∷ s.scope }) t }
+  named_in x b v h = record { by = λ s t. h.by (declared x b v s) t }
 
   pub unit_first : {a : Act} (f : Value → Acts) → Within AnyExit IsUnit a → (s : Store) (t : ℕ) → run_all w env (then_line a f) s t ≡ run_all w env (then_line a (λ v. f UnitV)) s t
   unit_first {a = a} f h s t = unit_result w env f (run w env a s t) (h.by s t)

@@ -91,7 +91,7 @@ plain_lasts l = record {
   again = plain_again;
   constant = constant_plain;
   value = value_plain;
-  pointer = λ x f h. refl;
+  pointer = λ ns x f h. refl;
   noop = refl;
   branching = λ e a b. refl;
   block = λ ss. refl;
@@ -119,7 +119,7 @@ places_last l = record {
   again = place_again;
   constant = constant_no_assignment;
   value = λ v. refl;
-  pointer = λ x f h. refl;
+  pointer = λ ns x f h. refl;
   noop = refl;
   branching = λ e a b. refl;
   block = λ ss. refl;
@@ -156,7 +156,7 @@ apart_lasts l = record {
   again = apart_again;
   constant = constant_apart;
   value = value_apart;
-  pointer = λ x f h. refl;
+  pointer = λ ns x f h. refl;
   noop = refl;
   branching = λ e a b. refl;
   block = λ ss. refl;
@@ -192,7 +192,7 @@ module _ (Q : Callee → Type 0) where
     again = captures_again;
     constant = constant_captures;
     value = value_captures;
-    pointer = λ x f h z. absurd (let y : false ≡ true = z in cc);
+    pointer = λ ns x f h z. absurd (let y : false ≡ true = z in cc);
     noop = tt;
     branching = λ e a b. tt;
     block = λ ss. tt;

@@ -2,7 +2,7 @@
 use Rattle.std.proofs.Common.{◌≡◌, ℕ, Bool, true, false, refl, sym, ap, ◌∙◌}
 use Rattle.std.proofs.lemmas.Bool.{or_parts}
 use Rattle.rhai_base.specs.Value.{Text, Value, UnitV}
-use Rattle.theory_meaning.specs.Act.{World, Store, Ending, Gives, Leaves, Stop, Scoped, Acts, Only, Named, Env, and_then, leave, run, run_all}
+use Rattle.theory_meaning.specs.Act.{World, Store, Ending, Gives, Leaves, Stop, Scoped, Acts, Only, Named, Env, and_then, leave, run, run_all, inside}
 use Rattle.theory_meaning.specs.ActForms.{give, each_value}
 use Rattle.theory_meaning.specs.Core.{Deed, Stmt, Var, Does, Stmts, no_stmts, stmt}
 use Rattle.theory_meaning.specs.Desugar.{core_stmt, core_stmts}
@@ -30,7 +30,7 @@ no_name_added loop (tree.stmt s ss) q = no_name_added loop ss (or_parts (is_bloc
 module _ (w : World) (env : Env) (loop : Bool) where
   -- braces around one deed
   pub scoped_deed : OnlyAdds env → (d : Deed) (s : Store) (t : ℕ) → run w env (Scoped (line w (Does d) (λ v. Only (give v)))) s t ≡ run w env (deed w d) s t
-  scoped_deed adds d s t = ap (leave s.scope) (line_unit w env (deed w d) s t) ∙ scoped_only w env adds (deed w d) s t
+  scoped_deed adds d s t = ap (leave s) (line_unit w env (deed w d) (inside s) t) ∙ scoped_only w env adds (deed w d) s t
 
   scoped_each : OnlyAdds env → (k : Value → Acts) → ((v : Value) (s : Store) (t : ℕ) → run w env (Scoped (k v)) s t ≡ run_all w env (k v) s t) → (e : Ending) (s : Store) (t : ℕ) → run w env (Scoped (each_value k e)) s t ≡ run_all w env (each_value k e) s t
   scoped_each adds k h (Gives v) s t = h v s t

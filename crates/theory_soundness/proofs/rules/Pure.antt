@@ -5,11 +5,11 @@ use Rattle.theory_meaning.specs.Act.{World, IsExport, Store, Unbound, Scoped, Ac
 use Rattle.theory_meaning.specs.Calls.{within}
 use Rattle.theory_meaning.specs.ActForms.{each_value, then_line, of_constant}
 use Rattle.theory_meaning.specs.Core as core
-use Rattle.theory_meaning.specs.Desugar.{variable, qualified, core_stmt, core_stmts}
+use Rattle.theory_meaning.specs.Desugar.{variable, qualified, core_stmt, core_stmts, is_global, in_module}
 use Rattle.theory_meaning.specs.Meaning.{exporting, act, deed, line, acts}
 use Rattle.theory_meaning.specs.Queries.{is_pure, is_internally_pure, are_internally_pure}
 use Rattle.theory_meaning.specs.Tree.{Variable, Stmt, ExprStmt, Stmts, no_stmts, stmt}
-use Rattle.theory_meaning.proofs.PureActs.{PureFrom, PureList, Calm, calm_of, calm_read, p_fail, p_give, l_named, unnamed}
+use Rattle.theory_meaning.proofs.PureActs.{PureFrom, PureList, Calm, calm_of, calm_read, p_fail, p_give, l_named, unnamed, calm_read_global}
 use Rattle.theory_meaning.proofs.PureTrees.{PureStmt, pure_deed, InternalStmt, declares, internal_deed, pure_stmt, internal_stmt, nameless_list}
 use Rattle.theory_meaning.proofs.Sequencing.{scoped_do}
 use Rattle.theory_rewriting.specs.Context.{Context, ListKind, Inside, wanted, wanted_before}
@@ -51,7 +51,11 @@ module _ {k : Context} (c : Setting k) where
 
   name_calm : (ns : List Text) (x : Text) → Calm (world c) (act (world c) (variable ns x))
   name_calm [] x = calm_read (world c) x
-  name_calm (n ∷ ns) x = record { from = λ s. module_from n (qualified ns x) s }
+  name_calm (n ∷ []) x = in_module_calm (is_global n) where
+    in_module_calm : (b : Bool) → Calm (world c) (act (world c) (in_module b n x))
+    in_module_calm true = calm_read_global (world c) x
+    in_module_calm false = record { from = λ s. module_from n x s }
+  name_calm (n ∷ m ∷ ns) x = record { from = λ s. module_from n (qualified (m ∷ ns) x) s }
 
   -- ---- a statement that is pure inside, before a list that changes nothing
 

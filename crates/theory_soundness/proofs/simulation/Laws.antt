@@ -1,7 +1,7 @@
 -- The laws of acts one after another, as simulations. A pure act whose value isn't needed may go.
 use Rattle.std.proofs.Common.{◌≡◌, ℕ, zero, suc, Bool, true, false, Option, Some, None, refl, sym, ap, ◌∙◌, arith}
 use Rattle.rhai_base.specs.Value.{Value, UnitV}
-use Rattle.theory_meaning.specs.Act.{World, Store, Ending, Gives, Stuck, IsStuck, Ended, Halted, Act, Fail, Then, Turn, Scoped, Only, Env, and_then, with_turn, leave, run}
+use Rattle.theory_meaning.specs.Act.{World, Store, Ending, Gives, Stuck, IsStuck, Ended, Halted, Act, Fail, Then, Turn, Scoped, Only, Env, and_then, with_turn, leave, run, inside}
 use Rattle.theory_meaning.specs.ActForms.{give, unit, ◌>>=◌, truth, branch, if_true, then_line}
 use Rattle.theory_meaning.specs.Laws.{Settled, Gave, Stopped, settled, spend}
 use Rattle.theory_meaning.proofs.Relations.{Follows, short, AnyHalt}
@@ -41,10 +41,10 @@ simulates_either v g h = in_branches (truth v) g h
 
 -- braces around one act, and around nothing
 pub simulates_braces : {k : Context} {c : Setting k} (a : Act) → Simulates c (Scoped (then_line a (λ v. Only (give v)))) a
-simulates_braces {c = c} a = simulates_equal (λ m. ap (leave m.store.scope) (line_unit (world c) m.env a m.store m.turns) ∙ scoped_only (world c) m.env m.adds a m.store m.turns)
+simulates_braces {c = c} a = simulates_equal (λ m. ap (leave m.store) (line_unit (world c) m.env a (inside m.store) m.turns) ∙ scoped_only (world c) m.env m.adds a m.store m.turns)
 
 pub simulates_to_braces : {k : Context} {c : Setting k} (a : Act) → Simulates c a (Scoped (then_line a (λ v. Only (give v))))
-simulates_to_braces {c = c} a = simulates_equal (λ m. sym (ap (leave m.store.scope) (line_unit (world c) m.env a m.store m.turns) ∙ scoped_only (world c) m.env m.adds a m.store m.turns))
+simulates_to_braces {c = c} a = simulates_equal (λ m. sym (ap (leave m.store) (line_unit (world c) m.env a (inside m.store) m.turns) ∙ scoped_only (world c) m.env m.adds a m.store m.turns))
 
 pub simulates_to_empty : {k : Context} {c : Setting k} → Simulates c unit (Scoped (Only unit))
 simulates_to_empty = simulates_equal (λ m. sym (leave_same m.store (Gives UnitV) m.turns))

@@ -1,15 +1,17 @@
 -- At one depth: an act whose runs match those of another. Each basic act keeps this.
-use Rattle.std.proofs.Common.{◌≡◌, ℕ, ◌+◌, ◌≤◌, [], ◌∷◌, ◌++◌, Option, Some, None, false, refl, sym, subst, arith}
+use Rattle.std.proofs.Common.{◌≡◌, ℕ, ◌+◌, ◌≤◌, Bool, true, false, ◌&&◌, [], ◌∷◌, ◌++◌, Option, Some, None, refl, sym, ◌∙◌, subst, arith}
 use Rattle.rhai_base.specs.Value.{Text, Value}
-use Rattle.theory_meaning.specs.Act.{EntryKind, IsConstant, is_name, resolved, HostCall, Answer, Store, Ending, Outcome, Ended, Result, At, ScriptCall, Act, Stop, Fail, Then, Turn, Read, Write, Resolve, AskHost, Invoke, Loop, Scoped, Acts, Only, Do, Named, Finish, Env, leave, rounds, run, run_all}
+use Rattle.theory_meaning.specs.Act.{EntryKind, IsConstant, is_name, is_published, resolved, HostCall, Answer, Store, Ending, Outcome, Ended, Result, At, ScriptCall, Act, Stop, Fail, Then, Turn, Read, Write, Resolve, AskHost, Invoke, Loop, Scoped, Acts, Only, Do, Named, Finish, Env, leave, rounds, run, run_all, inside, declared}
 use Rattle.theory_meaning.specs.Relations.{store_of}
 use Rattle.theory_meaning.proofs.Relations.{Follows, AnyHalt, IsOut}
 use Rattle.theory_meaning.proofs.Preserves.{preserves, preserves_all}
 use Rattle.theory_meaning.proofs.Monotone.{follow_call, follow_then, follow_turn, follow_returned, follow_leave, follow_rounds, Deeper, monotone, monotone_all, follows_refl, follows_trans}
 use Rattle.theory_meaning.proofs.Ends.{met_call, Run, Ends, Met, stays, met_self, met_move, met_then, met_turn, met_leave, met_returned, met_rounds}
-use Rattle.theory_rewriting.specs.Context.{Context}
-use Rattle.theory_soundness.proofs.simulation.Agreement.{agrees_keeps, agrees_noting, agrees_beside}
-use Rattle.theory_soundness.proofs.simulation.Setting.{Setting, world, environment, noted, beneath, Agreed, run_by_depth, run_all_by_depth, adds_at, rises, rises_all}
+use Rattle.theory_meaning.proofs.Globals.{globals_kept}
+use Rattle.theory_rewriting.specs.Context.{Context, noting}
+use Rattle.theory_rewriting.specs.Known.{Holds}
+use Rattle.theory_soundness.proofs.simulation.Agreement.{agrees_keeps, agrees_noting, agrees_beside, holds_noted, holds_published}
+use Rattle.theory_soundness.proofs.simulation.Setting.{Setting, world, environment, noted, beneath, Agreed, Listed, run_by_depth, run_all_by_depth, adds_at, rises, rises_all}
 
 -- The result r is what a run p may give: it follows p from this depth and these turns, and p meets it with enough of them.
 pub record Matches (p : Run) (d : ℕ) (s : Store) (t : ℕ) (r : Result) : Type 0 where
@@ -26,7 +28,7 @@ pub record SimulatesAt {k : Context} (c : Setting k) (g : Stage) (a b : Act) : T
   pub matches : (s : Store) (t : ℕ) → Agreed k s → Matches (run_by_depth c a) g.depth s t (run (world c) g.env b s t)
 
 pub record SimulatesAllAt {k : Context} (c : Setting k) (g : Stage) (p q : Acts) : Type 0 where
-  pub matches : (s : Store) (t : ℕ) → Agreed k s → Matches (run_all_by_depth c p) g.depth s t (run_all (world c) g.env q s t)
+  pub matches : (s : Store) (t : ℕ) → Listed k s → Matches (run_all_by_depth c p) g.depth s t (run_all (world c) g.env q s t)
 
 -- ---- steps
 
@@ -34,17 +36,27 @@ pub record SimulatesAllAt {k : Context} (c : Setting k) (g : Stage) (p q : Acts)
 later : {k : Context} {c : Setting k} {g : Stage} {a b : Act} → SimulatesAt c g a b → (s : Store) (t t' : ℕ) → Agreed k s → t + 0 ≤ t' → Follows AnyHalt 0 (run_by_depth c a g.depth s t) (run (world c) g.env b s t')
 later {c = c} {g = g} {b = b} h s t t' ag le = follows_trans (h.matches s t ag).forward (monotone AnyHalt tt 0 (world c) g.env g.env g.steady b s t t' le)
 
-later_all : {k : Context} {c : Setting k} {g : Stage} {p q : Acts} → SimulatesAllAt c g p q → (s : Store) (t t' : ℕ) → Agreed k s → t + 0 ≤ t' → Follows AnyHalt 0 (run_all_by_depth c p g.depth s t) (run_all (world c) g.env q s t')
+later_all : {k : Context} {c : Setting k} {g : Stage} {p q : Acts} → SimulatesAllAt c g p q → (s : Store) (t t' : ℕ) → Listed k s → t + 0 ≤ t' → Follows AnyHalt 0 (run_all_by_depth c p g.depth s t) (run_all (world c) g.env q s t')
 later_all {c = c} {g = g} {q = q} h s t t' ag le = follows_trans (h.matches s t ag).forward (monotone_all AnyHalt tt 0 (world c) g.env g.env g.steady q s t t' le)
 
-stays_known : {k : Context} (c : Setting k) (a : Act) (d : ℕ) (s : Store) (t : ℕ) → Agreed k s → Agreed k (store_of (run_by_depth c a d s t))
-stays_known c a d s t ag = agrees_keeps (preserves (world c) (environment c d) (adds_at c d) a s t).scope ag
+pub stays_known : {k : Context} (c : Setting k) (a : Act) (d : ℕ) (s : Store) (t : ℕ) → Agreed k s → Agreed k (store_of (run_by_depth c a d s t))
+stays_known {k} c a d s t ag =
+    (agrees_keeps (preserves (world c) (environment c d) (adds_at c d) a s t).scope ag.0, subst (Holds k.known) (sym (globals_kept (world c) (environment c d) a s t).globals) ag.1)
 
-ends_known : {k : Context} (c : Setting k) (a : Act) (s : Store) (o : Outcome) (s1 : Store) → Agreed k s → Ends (run_by_depth c a) s o s1 → Agreed k s1
+stays_listed : {k : Context} (c : Setting k) (a : Act) (d : ℕ) (s : Store) (t : ℕ) → Listed k s → Listed k (store_of (run_by_depth c a d s t))
+stays_listed c a d s t ag = (stays_known c a d s t ag.0, λ h. ag.1 (sym (globals_kept (world c) (environment c d) a s t).own ∙ h))
+
+pub ends_known : {k : Context} (c : Setting k) (a : Act) (s : Store) (o : Outcome) (s1 : Store) → Agreed k s → Ends (run_by_depth c a) s o s1 → Agreed k s1
 ends_known {k = k} c a s o s1 ag x =
     let z = x.by x.depth x.turns 0 (omega arith) (omega arith) in
     let P : Result → Type 0 = λ r. Agreed k (store_of r) in
     subst P z.2 (stays_known c a x.depth s x.turns ag)
+
+ends_listed : {k : Context} (c : Setting k) (a : Act) (s : Store) (o : Outcome) (s1 : Store) → Listed k s → Ends (run_by_depth c a) s o s1 → Listed k s1
+ends_listed {k = k} c a s o s1 ag x =
+    let z = x.by x.depth x.turns 0 (omega arith) (omega arith) in
+    let P : Result → Type 0 = λ r. Listed k (store_of r) in
+    subst P z.2 (stays_listed c a x.depth s x.turns ag)
 
 -- from one run to another that ends as it does
 pub ends_as : {p q : Run} {s s1 : Store} → ((d t : ℕ) → p d s t ≡ q d s1 t) → {o : Outcome} {s' : Store} → Ends p s o s' → Ends q s1 o s'
@@ -73,7 +85,7 @@ at_equal {c = c} {g = g} {a = a} h = record {
   };
 }
 
-pub all_at_equal : {k : Context} {c : Setting k} {g : Stage} {p q : Acts} → ((s : Store) (t : ℕ) → Agreed k s → run_all_by_depth c p g.depth s t ≡ run_all (world c) g.env q s t) → SimulatesAllAt c g p q
+pub all_at_equal : {k : Context} {c : Setting k} {g : Stage} {p q : Acts} → ((s : Store) (t : ℕ) → Listed k s → run_all_by_depth c p g.depth s t ≡ run_all (world c) g.env q s t) → SimulatesAllAt c g p q
 all_at_equal {c = c} {g = g} {p = p} h = record {
   matches = λ s t ag. record {
     forward = subst (Follows AnyHalt 0 (run_all_by_depth c p g.depth s t)) (h s t ag) (follows_refl AnyHalt _);
@@ -95,18 +107,18 @@ at_then {k = k} {c = c} {g = g} {a = a} {next = next} {next' = next'} i h = reco
 pub at_do : {k : Context} {c : Setting k} {g : Stage} {a b : Act} {next next' : Ending → Acts} → SimulatesAt c g a b → ((e : Ending) → SimulatesAllAt c g (next e) (next' e)) → SimulatesAllAt c g (Do a next) (Do b next')
 at_do {k = k} {c = c} {g = g} {a = a} {next = next} {next' = next'} i h = record {
   matches = λ s t ag. record {
-    forward = follow_then AnyHalt tt 0 (Agreed k) (i.matches s t ag).forward (stays_known c a g.depth s t ag) _ _
+    forward = follow_then AnyHalt tt 0 (Listed k) (i.matches s t ag.0).forward (stays_listed c a g.depth s t ag) _ _
         (λ e s1 t1 t1' q le. later_all (h e) s1 t1 t1' q le)
         (λ e s1 t1. (preserves_all (world c) g.env g.steady.adds (next' e) s1 t1).calls);
-    backward = met_then (run_by_depth c a) (λ e. run_all_by_depth c (next e)) _ s _ (i.matches s t ag).backward
-        (λ e s1 t1 x. ((h e).matches s1 t1 (ends_known c a s (Ended e) s1 ag x)).backward);
+    backward = met_then (run_by_depth c a) (λ e. run_all_by_depth c (next e)) _ s _ (i.matches s t ag.0).backward
+        (λ e s1 t1 x. ((h e).matches s1 t1 (ends_listed c a s (Ended e) s1 ag x)).backward);
   };
 }
 
 pub at_only : {k : Context} {c : Setting k} {g : Stage} {a b : Act} → SimulatesAt c g a b → SimulatesAllAt c g (Only a) (Only b)
 at_only {c = c} {a = a} i = record {
   matches = λ s t ag.
-      let z = i.matches s t ag in
+      let z = i.matches s t ag.0 in
       record { forward = z.forward; backward = met_move (run_by_depth c a) (run_all_by_depth c (Only a)) s s _ (λ o s' x. ends_as (λ d t1. refl) x) z.backward };
 }
 
@@ -126,20 +138,32 @@ at_turn {c = c} {g = g} {a = a} {b = b} i = record {
   };
 }
 
+pub own_no : {A : Type 0} → false ≡ true → A
+own_no h = cc
+
+first_of : (a b : Bool) → a && b ≡ true → a ≡ true
+first_of true b h = refl
+first_of false b h = h
+
 pub at_scoped : {k : Context} {c : Setting k} {g : Stage} {p q : Acts} → SimulatesAllAt c g p q → SimulatesAt c g (Scoped p) (Scoped q)
 at_scoped {c = c} {p = p} i = record {
   matches = λ s t ag. record {
-    forward = follow_leave AnyHalt tt 0 s.scope (i.matches s t ag).forward;
-    backward = met_move (λ d s1 t1. leave s.scope (run_all_by_depth c p d s1 t1)) (run_by_depth c (Scoped p)) s s _ (λ o s' x. ends_as (λ d t1. refl) x) (met_leave (run_all_by_depth c p) s s.scope _ (i.matches s t ag).backward);
+    forward = follow_leave AnyHalt tt 0 s (i.matches (inside s) t (ag, own_no)).forward;
+    backward = met_move (λ d s1 t1. leave s (run_all_by_depth c p d s1 t1)) (run_by_depth c (Scoped p)) (inside s) s _ (λ o s' x. ends_as (λ d t1. refl) x) (met_leave (run_all_by_depth c p) (inside s) s _ (i.matches (inside s) t (ag, own_no)).backward);
   };
 }
+
+-- what is known of constants holds behind a declaration
+still_holds : (k : Context) (s : Store) (x : Text) (b : EntryKind) (v : Value) → Listed k s → Holds k.known (declared x b v s).globals
+still_holds k s x b v ag = holds_published k.known (s.is_own && is_published b) x v s.globals (λ h. ag.1 (first_of s.is_own (is_published b) h)) ag.0.1
 
 -- under a name, of which this is known
 pub at_noted : {k : Context} {c : Setting k} {g : Stage} (x : Text) (o : Option Value) (b : EntryKind) (v : Value) → ((w : Value) → o ≡ Some w → (b ≡ IsConstant) × (v ≡ w)) → {p q : Acts} → SimulatesAllAt (noted x o c) g p q → SimulatesAllAt c g (Named x b v p) (Named x b v q)
 at_noted {k = k} {c = c} x o b v f {p = p} i = record {
   matches = λ s t ag.
-      let s1 : Store = record s { scope = record { name = x; kind = b; value = v } ∷ s.scope } in
-      let z = i.matches s1 t (agrees_noting k.engine.constants k.known s.scope x o b v f ag) in
+      let s1 = declared x b v s in
+      let ag1 : Agreed (noting x o k) s1 = (agrees_noting k.engine.constants k.known s.scope x o b v f ag.0.0, holds_noted k.known s1.globals x o (still_holds k s x b v ag)) in
+      let z = i.matches s1 t (ag1, ag.1) in
       record { forward = z.forward; backward = met_move (run_all_by_depth c p) (run_all_by_depth c (Named x b v p)) s1 s _ (λ o s' y. ends_as (λ d t1. refl) y) z.backward };
 }
 
@@ -150,8 +174,8 @@ at_named x b v i = at_noted x None b v (λ w h. absurd (let z : None ≡ Some w 
 pub at_beside : {k : Context} {c : Setting k} {g : Stage} (x : Text) (b : EntryKind) (v : Value) → is_name b ≡ false → {p q : Acts} → SimulatesAllAt c g p q → SimulatesAllAt c g (Named x b v p) (Named x b v q)
 at_beside {k = k} {c = c} x b v e {p = p} i = record {
   matches = λ s t ag.
-      let s1 : Store = record s { scope = record { name = x; kind = b; value = v } ∷ s.scope } in
-      let z = i.matches s1 t (agrees_beside k.engine.constants k.known s.scope x b v e ag) in
+      let s1 = declared x b v s in
+      let z = i.matches s1 t ((agrees_beside k.engine.constants k.known s.scope x b v e ag.0.0, still_holds k s x b v ag), ag.1) in
       record { forward = z.forward; backward = met_move (run_all_by_depth c p) (run_all_by_depth c (Named x b v p)) s1 s _ (λ o s' y. ends_as (λ d t1. refl) y) z.backward };
 }
 
@@ -200,18 +224,18 @@ at_loop {k = k} {c = c} {g = g} {a = a} {b = b} le i = record {
 }
 
 abbrev pub calling : (ℕ → Env) → ScriptCall → Run
-calling F a d s t = (F d).invoke a s.scope s.calls t
+calling F a d s t = (F d).invoke a s t
 
 -- script calls in the new environment match those of the old ones
 pub record CallsMatch {k : Context} (c : Setting k) (g : Stage) : Type 0 where
   pub rounds : (environment c g.depth).rounds ≤ g.env.rounds
-  pub calls : (a : ScriptCall) (s : Store) (t : ℕ) → Matches (calling c.environments.by_depth a) g.depth s t (g.env.invoke a s.scope s.calls t)
+  pub calls : (a : ScriptCall) (s : Store) (t : ℕ) → Holds k.known s.globals → Matches (calling c.environments.by_depth a) g.depth s t (g.env.invoke a s t)
 
 pub at_invoke : {k : Context} {c : Setting k} {g : Stage} (a : ScriptCall) {next next' : Value → Option Value → Act} → CallsMatch c g → ((v : Value) (u : Option Value) → SimulatesAt c g (next v u) (next' v u)) → SimulatesAt c g (Invoke a next) (Invoke a next')
 at_invoke {c = c} {g = g} a {next = next} {next' = next'} m h = record {
   matches = λ s t ag. record {
-    forward = follow_call AnyHalt tt 0 s (m.calls a s t).forward _ _ (λ v u cs t1 t1' le. later (h v u) (record s { calls = cs }) t1 t1' ag le) (λ v u s1 t1. (preserves (world c) g.env g.steady.adds (next' v u) s1 t1).calls);
-    backward = met_call (calling c.environments.by_depth a) (λ v u. run_by_depth c (next v u)) _ s _ (m.calls a s t).backward (λ v u cs t1. ((h v u).matches (record s { calls = cs }) t1 ag).backward);
+    forward = follow_call AnyHalt tt 0 s (m.calls a s t ag.1).forward _ _ (λ v u cs t1 t1' le. later (h v u) (record s { calls = cs }) t1 t1' ag le) (λ v u s1 t1. (preserves (world c) g.env g.steady.adds (next' v u) s1 t1).calls);
+    backward = met_call (calling c.environments.by_depth a) (λ v u. run_by_depth c (next v u)) _ s _ (m.calls a s t ag.1).backward (λ v u cs t1. ((h v u).matches (record s { calls = cs }) t1 ag).backward);
   };
 }
 
@@ -234,4 +258,4 @@ mutual
   all_at_refl (Only a) c g m = at_only (at_refl a c g m)
   all_at_refl (Do a next) c g m = at_do (at_refl a c g m) (λ e. all_at_refl (next e) c g m)
   all_at_refl (Finish p) c g m = at_finish (all_at_refl p c g m)
-  all_at_refl (Named x b v p) c g m = at_named x b v (all_at_refl p (beneath x c) g (record { rounds = m.rounds; calls = m.calls }))
+  all_at_refl (Named x b v p) c g m = at_named x b v (all_at_refl p (beneath x c) g (record { rounds = m.rounds; calls = λ a s t h. m.calls a s t (record { is = h.is }) }))

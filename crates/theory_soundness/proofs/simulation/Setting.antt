@@ -1,5 +1,5 @@
 -- What lemmas on runs share: where a tree stands, the world, and the environments by depth.
-use Rattle.std.proofs.Common.{ℕ, ◌≤◌, Bool, List, Option, None, arith}
+use Rattle.std.proofs.Common.{◌≡◌, ℕ, ◌≤◌, Bool, true, List, Option, None, arith}
 use Rattle.rhai_base.specs.Value.{Text, Value}
 use Rattle.theory_meaning.specs.Act.{Host, Key, Store, World, Result, Act, Acts, Env, run, run_all}
 use Rattle.theory_meaning.proofs.Preserves.{OnlyAdds}
@@ -8,8 +8,9 @@ use Rattle.theory_meaning.proofs.Monotone.{Deeper, follows_weak, monotone, monot
 use Rattle.theory_meaning.proofs.Ends.{Run, Rises}
 use Rattle.theory_meaning.specs.Tree.{Stmt}
 use Rattle.theory_rewriting.specs.Context.{Context, ListContext, knowing, noting, naming, behind}
-use Rattle.theory_rewriting.specs.Known.{Known, Agrees}
+use Rattle.theory_rewriting.specs.Known.{Known, Agrees, Holds}
 use Rattle.theory_soundness.proofs.acts.Within.{Valueless, CallsIn}
+use Rattle.theory_soundness.proofs.simulation.Agreement.{KnowsNoGlobal}
 
 -- A deeper one does what a shallower one does unless that is out of turns, and loops go round as often as it is deep.
 -- No call leaves a loop with a value.
@@ -50,7 +51,11 @@ knowing_fewer ks c = record { host = c.host; functions = c.functions; environmen
 
 -- what is known holds in the store
 abbrev pub Agreed : Context → Store → Type 0
-Agreed k s = Agrees k.engine.constants k.known s.scope
+Agreed k s = Agrees k.engine.constants k.known s.scope × Holds k.known s.globals
+
+-- and where the script's own list is run, which declares the constants that functions see, of none of them anything is known
+abbrev pub Listed : Context → Store → Type 0
+Listed k s = Agreed k s × (s.is_own ≡ true → KnowsNoGlobal k.known)
 
 -- where a run may start
 pub record Start (k : Context) : Type 0 where
@@ -81,7 +86,7 @@ adds_at c d = (c.environments.deeper d d 0 (omega arith)).adds
 abbrev pub steady_at : {k : Context} (c : Setting k) (d : ℕ) → Deeper AnyHalt tt 0 (environment c d) (environment c d)
 steady_at c d =
     let h = c.environments.deeper d d 0 (omega arith) in
-    record { rounds = h.rounds; invoke = λ a scope calls t t' le. follows_weak (h.invoke a scope calls t t' le); adds = h.adds }
+    record { rounds = h.rounds; invoke = λ a s t t' le. follows_weak (h.invoke a s t t' le); adds = h.adds }
 
 pub rises : {k : Context} (c : Setting k) (a : Act) → Rises (run_by_depth c a)
 rises c a d1 d2 n s t t' le lt = monotone IsOut tt n (world c) (environment c d1) (environment c d2) (c.environments.deeper d1 d2 n le) a s t t' lt

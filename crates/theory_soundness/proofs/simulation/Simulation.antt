@@ -9,7 +9,7 @@ use Rattle.theory_meaning.proofs.Ends.{Run, Met, stuck, Rises, ends_of, met_self
 use Rattle.theory_rewriting.specs.Context.{Context}
 use Rattle.theory_rewriting.specs.Known.{Known}
 use Rattle.theory_rewriting.proofs.Knowing.{KnowsLess}
-use Rattle.theory_soundness.proofs.simulation.Agreement.{agrees_knowing_less}
+use Rattle.theory_soundness.proofs.simulation.Agreement.{agrees_knowing_less, holds_knowing_less, knows_none_less}
 use Rattle.theory_soundness.proofs.simulation.Setting.{Setting, noted, knowing_fewer, environment, Agreed, Start, run_from, run_all_from, run_by_depth, run_all_by_depth, steady_at, rises}
 use Rattle.theory_soundness.proofs.simulation.Matching.{Stage, SimulatesAt, SimulatesAllAt, CallsMatch, calling, at_equal, all_at_equal, at_then, at_turn, at_ask, at_invoke, at_loop, at_do, at_scoped, at_finish, at_only, at_noted, at_refl, all_at_refl, at_resolve, at_beside}
 
@@ -51,19 +51,19 @@ simulates_trans {c = c} {a = a} {b = b} i h = record {
 -- ---- where fewer names are known
 
 pub simulates_knowing_less : {k : Context} {c : Setting k} {ks : List Known} {a b : Act} → KnowsLess ks k.known → Simulates (knowing_fewer ks c) a b → Simulates c a b
-simulates_knowing_less i h = record { at = λ d. record { matches = λ s t ag. (h.at d).matches s t (agrees_knowing_less i ag) } }
+simulates_knowing_less i h = record { at = λ d. record { matches = λ s t ag. (h.at d).matches s t (agrees_knowing_less i ag.0, holds_knowing_less i ag.1) } }
 
 pub all_knowing_less : {k : Context} {c : Setting k} {ks : List Known} {p q : Acts} → KnowsLess ks k.known → SimulatesAll (knowing_fewer ks c) p q → SimulatesAll c p q
-all_knowing_less i h = record { at = λ d. record { matches = λ s t ag. (h.at d).matches s t (agrees_knowing_less i ag) } }
+all_knowing_less i h = record { at = λ d. record { matches = λ s t ag. (h.at d).matches s t ((agrees_knowing_less i ag.0.0, holds_knowing_less i ag.0.1), λ own. knows_none_less i (ag.1 own)) } }
 
 -- ---- the same act
 
 self_match : {k : Context} (c : Setting k) (d : ℕ) → CallsMatch c (stage c d)
 self_match c d = record {
   rounds = omega arith;
-  calls = λ a s t. record {
+  calls = λ a s t held. record {
     forward = follows_refl AnyHalt _;
-    backward = met_self (calling c.environments.by_depth a) (λ d1 d2 n s1 t1 t1' le lt. (c.environments.deeper d1 d2 n le).invoke a s1.scope s1.calls t1 t1' lt) d s t;
+    backward = met_self (calling c.environments.by_depth a) (λ d1 d2 n s1 t1 t1' le lt. (c.environments.deeper d1 d2 n le).invoke a s1 t1 t1' lt) d s t;
   };
 }
 
@@ -84,7 +84,7 @@ simulates_equal {c = c} h = record { at = λ d. at_equal (λ s t ag. h (at_depth
 
 pub all_equal : {k : Context} {c : Setting k} {p q : Acts} → ((m : Start k) → run_all_from c m p ≡ run_all_from c m q) → SimulatesAll c p q
 unfolding at_depth
-all_equal {c = c} h = record { at = λ d. all_at_equal (λ s t ag. h (at_depth c d s t ag)) }
+all_equal {c = c} h = record { at = λ d. all_at_equal (λ s t ag. h (at_depth c d s t ag.0)) }
 
 -- ---- inside acts
 

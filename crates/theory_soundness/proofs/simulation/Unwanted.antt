@@ -1,7 +1,7 @@
 -- Where a list's value is not wanted: acts that are alike but for it.
 use Rattle.std.proofs.Common.{◌≡◌, ℕ, Bool, true, false, Option, Some, None, List, refl, sym, ap, ◌∙◌}
 use Rattle.rhai_base.specs.Value.{Text, Value, UnitV}
-use Rattle.theory_meaning.specs.Act.{World, ScopeEntry, Store, Ending, Gives, Leaves, Ended, Halted, Result, At, Act, Scoped, Acts, Named, Env, and_then, leave, run, run_all}
+use Rattle.theory_meaning.specs.Act.{World, ScopeEntry, Store, Ending, Gives, Leaves, Ended, Halted, Result, At, Act, Scoped, Acts, Named, Env, and_then, leave, run, run_all, inside}
 use Rattle.theory_meaning.specs.Core.{Expr, Var, Does, If, Block, Stmts, no_stmts, stmt}
 use Rattle.theory_meaning.specs.ActForms.{unit, value_then, ◌>>=◌, branch, truth, if_true, each_value, then_line}
 use Rattle.theory_meaning.specs.Meaning.{exporting, act, deed, line, acts}
@@ -48,13 +48,13 @@ module _ (w : World) (env : Env) where
   acts_drop (stmt (Var k b x e) ss) v s t =
       then_same (run w env (act w e) s t) _ _ (drop_each (λ u. Named x k u (exporting b x u (acts w false ss UnitV))) (λ u. Named x k u (exporting b x u (acts w true ss UnitV))) (λ u s1 t1. exporting_drop b x u _ _ (λ s2 t2. acts_drop ss UnitV s2 t2) _ t1)) ∙ sym (then_assoc (run w env (act w e) s t) _ _)
 
-  leave_drop : (es : List ScopeEntry) (r : Result) → and_then (leave es (and_then r drop)) drop ≡ and_then (leave es r) drop
-  leave_drop es (At (Ended (Gives v)) s t) = refl
-  leave_drop es (At (Ended (Leaves x)) s t) = refl
-  leave_drop es (At (Halted f) s t) = refl
+  leave_drop : (old : Store) (r : Result) → and_then (leave old (and_then r drop)) drop ≡ and_then (leave old r) drop
+  leave_drop old (At (Ended (Gives v)) s t) = refl
+  leave_drop old (At (Ended (Leaves x)) s t) = refl
+  leave_drop old (At (Halted f) s t) = refl
 
   alike_list : (ss : Stmts) (v : Value) → Alike (Scoped (acts w true ss v)) (Scoped (acts w false ss v))
-  alike_list ss v s t = sym (leave_drop s.scope (run_all w env (acts w true ss v) s t)) ∙ ap (λ r. and_then (leave s.scope r) drop) (sym (acts_drop ss v s t))
+  alike_list ss v s t = sym (leave_drop s (run_all w env (acts w true ss v) (inside s) t)) ∙ ap (λ r. and_then (leave s r) drop) (sym (acts_drop ss v (inside s) t))
 
   alike_branch : (o : Option Bool) (a a' b b' : Act) → Alike a a' → Alike b b' → Alike (branch o a b) (branch o a' b')
   alike_branch None a a' b b' g h s t = refl

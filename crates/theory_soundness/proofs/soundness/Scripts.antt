@@ -4,28 +4,30 @@ use Rattle.rhai_base.specs.Value.{Text}
 use Rattle.theory_meaning.specs.Act.{World, ScopeEntry, Key, ScriptCall, Store, Ending, Stuck, IsStuck, Outcome, Ended, Halted, Result, At, Acts, Env, with_turn, run_all}
 use Rattle.theory_meaning.specs.Core.{Function, Script, Stmts}
 use Rattle.theory_meaning.specs.Calls.{same_key, key}
-use Rattle.theory_meaning.specs.Run.{function_of, seen, entered, body_acts, call_body, env_at, EntryPoint, AtStatements, AtFunction, run_at}
+use Rattle.theory_meaning.specs.Run.{function_of, seen, entered, body_acts, call_body, env_at, EntryPoint, AtStatements, AtFunction, run_at, started}
 use Rattle.theory_meaning.proofs.Relations.{Follows, same, AnyHalt}
-use Rattle.theory_meaning.proofs.Monotone.{Action, follows_begins, follows_refl}
-use Rattle.theory_meaning.proofs.Ends.{Run, Ends, Met, out, ended, stuck, Rises, met_self, met_move, met_turn}
+use Rattle.theory_meaning.proofs.Monotone.{Action, follows_begins, follows_refl, follows_trans}
+use Rattle.theory_meaning.proofs.Ends.{Run, Ends, Met, out, ended, stuck, Rises, met_self, met_move, met_trans, met_turn}
 use Rattle.theory_meaning.proofs.Depths.{deeper_at}
-use Rattle.theory_rewriting.specs.Known.{Known, shadow_all, Agrees}
+use Rattle.theory_rewriting.proofs.Knowing.{no_name, same_globals}
+use Rattle.theory_rewriting.specs.Known.{Known, look_global, globals_of, shadow_all, Agrees, Holds}
 use Rattle.theory_soundness.specs.Refines.{EndsSo, RunRefines}
 use Rattle.theory_soundness.proofs.acts.Within.{AnyValue, Valueless, ResultIn, CallsIn, in_turn, returned_carries}
-use Rattle.theory_soundness.proofs.simulation.Agreement.{agrees_nothing, agrees_bind}
-use Rattle.theory_soundness.proofs.simulation.Setting.{Environments, Setting, steady_at}
-use Rattle.theory_soundness.proofs.simulation.Matching.{Matches, Stage, SimulatesAllAt, calling, ends_as, all_at_refl}
+use Rattle.theory_soundness.proofs.simulation.Agreement.{KnowsNoGlobal, agrees_nothing, agrees_bind, holds_none, holds_bind, holds_unbind}
+use Rattle.theory_soundness.proofs.simulation.Setting.{Environments, Setting, Agreed, Listed, steady_at}
+use Rattle.theory_soundness.proofs.simulation.Matching.{Matches, Stage, SimulatesAllAt, CallsMatch, calling, ends_as, all_at_refl, own_no}
+use Rattle.theory_soundness.proofs.simulation.Declaring.{Fair, fair_matches}
 use Rattle.theory_soundness.proofs.simulation.Simulation.{SimulatesAll, along}
 
 -- ---- the environments of a script
 
 -- a call ends as a body does
 pub calls_unbroken : (lends : Bool) (w : World) (fs : List Function) (d : ℕ) → CallsIn Valueless (env_at lends w fs d)
-calls_unbroken lends w fs zero a scope calls t = tt
-calls_unbroken lends w fs (suc d) a scope calls t = by (function_of fs a.function) where
-  by : (o : Option Function) → ResultIn Valueless AnyValue (call_body lends w (env_at lends w fs d) o a scope calls t)
+calls_unbroken lends w fs zero a s t = tt
+calls_unbroken lends w fs (suc d) a s t = by (function_of fs a.function) where
+  by : (o : Option Function) → ResultIn Valueless AnyValue (call_body lends w (env_at lends w fs d) o a s t)
   by None = tt
-  by (Some f) = in_turn Valueless AnyValue t (entered lends f a scope calls) (run_all w (env_at lends w fs d) (body_acts w f.body)) (λ t1. returned_carries _)
+  by (Some f) = in_turn Valueless AnyValue t (entered lends f a s) (run_all w (env_at lends w fs d) (body_acts w f.body)) (λ t1. returned_carries _)
 
 abbrev pub environments : Bool → World → List Function → Environments
 environments lends w fs = record { by_depth = env_at lends w fs; deeper = deeper_at lends w fs; reaches = λ d. omega arith; unbroken = calls_unbroken lends w fs }
@@ -85,7 +87,7 @@ module _ (lends : Bool) (w : World) (fs fs' : List Function) (known : List Known
   stage d = record { depth = d; env = new d; steady = steady_at (setting_in w [] (environments lends w fs')) d }
 
   abbrev body_call : Option Function → ScriptCall → Run
-  body_call o a n s t = call_body lends w (old n) o a s.scope s.calls t
+  body_call o a n s t = call_body lends w (old n) o a s t
 
   abbrev body_run : Stmts → Run
   body_run ss n = run_all w (old n) (body_acts w ss)
@@ -105,25 +107,26 @@ module _ (lends : Bool) (w : World) (fs fs' : List Function) (known : List Known
 
   -- how calls match at a depth
   abbrev CallsAt : ℕ → Type 0
-  CallsAt d = (a : ScriptCall) (s : Store) (t : ℕ) → Matches (calling old a) d s t ((new d).invoke a s.scope s.calls t)
+  CallsAt d = (a : ScriptCall) (s : Store) (t : ℕ) → Holds known s.globals → Matches (calling old a) d s t ((new d).invoke a s t)
 
-  mutual_step : (d : ℕ) → CallsAt d → (ks : List Known) (p q : Acts) → SimulatesAll (setting ks) p q → SimulatesAllAt (setting ks) (stage d) p q
-  mutual_step d calls ks p q h = along p q q h (all_at_refl q (setting ks) (stage d) (record { rounds = omega arith; calls = calls }))
+  -- a body under these parameters
+  body_step : (d : ℕ) → CallsAt d → (xs : List Text) (p q : Acts) → SimulatesAll (setting (shadow_all xs known)) p q → SimulatesAllAt (setting (shadow_all xs known)) (stage d) p q
+  body_step d calls xs p q h = along p q q h (all_at_refl q (setting (shadow_all xs known)) (stage d) (record { rounds = omega arith; calls = λ a s t held. calls a s t (holds_unbind xs known s.globals held) }))
 
   stuck_rises : (a : ScriptCall) → Rises (body_call None a)
   stuck_rises a d d' n s t t' le lt = same lt
 
-  body_matches : (d : ℕ) (calls : CallsAt d) (a : ScriptCall) (s : Store) (t : ℕ) (o o' : Option Function) → FoundTo w known o o' → Matches (body_call o a) d s t (call_body lends w (new d) o' a s.scope s.calls t)
-  body_matches d calls a s t o o' not_found = record {
+  body_matches : (d : ℕ) (calls : CallsAt d) (a : ScriptCall) (s : Store) (t : ℕ) → Holds known s.globals → (o o' : Option Function) → FoundTo w known o o' → Matches (body_call o a) d s t (call_body lends w (new d) o' a s t)
+  body_matches d calls a s t held o o' not_found = record {
     forward = follows_refl AnyHalt _;
     backward = met_self (body_call None a) (stuck_rises a) d s t;
   }
-  body_matches d calls a s t o o' (found_to (function {f = f} {u = u} {xs = xs} {ss = ss} {ss' = ss'} p)) =
+  body_matches d calls a s t held o o' (found_to (function {f = f} {u = u} {xs = xs} {ss = ss} {ss' = ss'} p)) =
       let g : Function = record { name = f; this_type = u; params = xs; body = ss } in
-      let s1 = entered lends g a s.scope s.calls in
+      let s1 = entered lends g a s in
       let ks = shadow_all xs known in
-      let h = mutual_step d calls ks (body_acts w ss) (body_acts w ss') (p.body (environments lends w fs)) in
-      let ag : Agrees w.engine.constants ks s1.scope = agrees_bind w.engine.constants xs a.arguments known _ (inside.holds a.captures s.scope) in
+      let h = body_step d calls xs (body_acts w ss) (body_acts w ss') (p.body (environments lends w fs)) in
+      let ag : Listed (record { engine = w.engine; known = ks }) s1 = ((agrees_bind w.engine.constants xs a.arguments known _ (inside.holds a.captures s.scope), holds_bind xs known s.globals held), own_no) in
       record {
         forward = follow_same_turn s1 t _ _ (λ t1. (h.matches s1 t1 ag).forward);
         backward = met_move (λ n s2 t2. with_turn t2 s2 (body_run ss n)) (body_call (Some g) a) s1 s _ (λ o2 s2 x. ends_as (λ n t1. refl) x)
@@ -131,46 +134,58 @@ module _ (lends : Bool) (w : World) (fs fs' : List Function) (known : List Known
       }
 
   calls_match : (d : ℕ) → CallsAt d
-  calls_match zero a s t = record { forward = follows_refl AnyHalt _; backward = out }
-  calls_match (suc d) a s t =
-      let c = body_matches d (calls_match d) a s t _ _ (find_to to a.function) in
+  calls_match zero a s t held = record { forward = follows_refl AnyHalt _; backward = out }
+  calls_match (suc d) a s t held =
+      let c = body_matches d (calls_match d) a s t held _ _ (find_to to a.function) in
       record { forward = c.forward; backward = met_move (body_call (function_of fs a.function) a) (calling old a) s s _ (λ o s' x. ends_call a s o s' x) c.backward }
 
-  -- a list of acts that does what another does, in the new script
-  list_matches : (d : ℕ) (ks : List Known) (p q : Acts) → SimulatesAll (setting ks) p q → SimulatesAllAt (setting ks) (stage d) p q
-  list_matches d ks p q h = mutual_step d (calls_match d) ks p q h
+  call_matches : (d : ℕ) (a : ScriptCall) (s : Store) (t : ℕ) → Holds known s.globals → Matches (body_call (function_of fs a.function) a) d s t (call_body lends w (new d) (function_of fs' a.function) a s t)
+  call_matches d a s t held = body_matches d (calls_match d) a s t held _ _ (find_to to a.function)
 
-  call_matches : (d : ℕ) (a : ScriptCall) (s : Store) (t : ℕ) → Matches (body_call (function_of fs a.function) a) d s t (call_body lends w (new d) (function_of fs' a.function) a s.scope s.calls t)
-  call_matches d a s t = body_matches d (calls_match d) a s t _ _ (find_to to a.function)
+  -- the script's own list: first with the new functions, then the new list
+  own_matches : (d : ℕ) (top : List Known) (p q : Acts) → ((envs : Environments) → SimulatesAll (setting_in w top envs) p q) → Fair (globals_of known) p → (s : Store) (t : ℕ) → Holds known s.globals → Listed (record { engine = w.engine; known = top }) s → Matches (λ n. run_all w (old n) p) d s t (run_all w (new d) q s t)
+  own_matches d top p q to_new fair s t held ag =
+      let calls : (n : ℕ) → CallsMatch (setting (globals_of known)) (stage n) = λ n. record { rounds = omega arith; calls = λ a s1 t1 h. calls_match n a s1 t1 (record { is = λ x v e. h.is x v (same_globals known x ∙ e) }) } in
+      let known_there : Agreed (record { engine = w.engine; known = globals_of known }) s = (record { is = λ x v h. absurd (let z : None ≡ Some v = sym (no_name known x) ∙ h in cc) }, record { is = λ x v e. held.is x v (sym (same_globals known x) ∙ e) }) in
+      let first : (n t1 : ℕ) → Matches (λ m. run_all w (old m) p) n s t1 (run_all w (new n) p s t1) = λ n t1. fair_matches (setting (globals_of known)) (stage n) (calls n) (no_name known) fair s t1 known_there in
+      let z = ((to_new (environments lends w fs')).at d).matches s t ag in
+      record {
+        forward = follows_trans (first d t).forward z.forward;
+        backward = met_trans (λ n. run_all w (old n) p) (λ n. run_all w (new n) p) s _ (λ n t1. (first n t1).backward) z.backward;
+      }
 
 -- ---- runs
 
 -- the new script: its functions, and its statements under what is known at top level
 pub record ScriptTo (w : World) (top inner : List Known) (p p' : Script) : Type 0 where
   pub statements : BodySimulates w top p.statements p'.statements
+  pub fair : Fair (globals_of inner) (body_acts w p.statements)
   pub functions : FunctionsTo w inner p.functions p'.functions
 
-module _ (lends : Bool) (w : World) (top inner : List Known) (p p' : Script) (scope : List ScopeEntry) (inside : KnownInside lends w inner) (to : ScriptTo w top inner p p') (ag : Agrees w.engine.constants top scope) where
+module _ (lends : Bool) (w : World) (top inner : List Known) (p p' : Script) (scope : List ScopeEntry) (inside : KnownInside lends w inner) (to : ScriptTo w top inner p p') (none : KnowsNoGlobal top) (ag : Agrees w.engine.constants top scope) where
   abbrev start : EntryPoint → Store
-  start AtStatements = record { scope = scope; this = None; calls = [] }
-  start (AtFunction k this vs) = record { scope = []; this = None; calls = [] }
+  start AtStatements = started scope
+  start (AtFunction k this vs) = started []
 
   -- a run by depth
   abbrev whole : EntryPoint → Run
   whole AtStatements d s t = run_all w (env_at lends w p.functions d) (body_acts w p.statements) s t
-  whole (AtFunction k this vs) d s t = call_body lends w (env_at lends w p.functions d) (function_of p.functions k) (record { function = k; captures = false; this = this; arguments = vs }) s.scope s.calls t
+  whole (AtFunction k this vs) d s t = call_body lends w (env_at lends w p.functions d) (function_of p.functions k) (record { function = k; captures = false; this = this; arguments = vs }) s t
 
   is_whole : (e : EntryPoint) (n : ℕ) → run_at lends w p e scope n ≡ whole e n (start e) n
   is_whole AtStatements n = refl
   is_whole (AtFunction k this vs) n = refl
 
+  held_first : Holds inner []
+  held_first = record { is = λ x v h. tt }
+
   run_matches : (e : EntryPoint) (n : ℕ) → Matches (whole e) n (start e) n (run_at lends w p' e scope n)
   run_matches AtStatements n =
-      let c = (list_matches lends w p.functions p'.functions inner inside to.functions n top _ _ (to.statements.body (environments lends w p.functions))).matches (start AtStatements) n ag in
+      let c = own_matches lends w p.functions p'.functions inner inside to.functions n top _ _ to.statements.body to.fair (start AtStatements) n held_first ((ag, holds_none [] none), λ own. none) in
       record { forward = c.forward; backward = met_move _ (whole AtStatements) (start AtStatements) (start AtStatements) _ (λ o s' x. ends_as (λ d t1. refl) x) c.backward }
   run_matches (AtFunction k this vs) n =
       let e : EntryPoint = AtFunction k this vs in
-      let c = call_matches lends w p.functions p'.functions inner inside to.functions n (record { function = k; captures = false; this = this; arguments = vs }) (start e) n in
+      let c = call_matches lends w p.functions p'.functions inner inside to.functions n (record { function = k; captures = false; this = this; arguments = vs }) (start e) n held_first in
       record { forward = c.forward; backward = met_move _ (whole e) (start e) (start e) _ (λ o s' x. ends_as (λ d t1. refl) x) c.backward }
 
   follows_run : (e : EntryPoint) (n : ℕ) → Follows AnyHalt 0 (run_at lends w p e scope n) (run_at lends w p' e scope n)

@@ -2,12 +2,14 @@
 use Rattle.std.proofs.Common.{◌≡◌, Bool, true, false, cond, List, [], ◌∷◌, ◌++◌, Option, Some, None, refl, sym, ap, ◌∙◌, append_assoc}
 use Rattle.std.specs.Prelude.{◌&&◌, option_map}
 use Rattle.rhai_base.specs.Value.{Text, Value, same_text}
-use Rattle.theory_meaning.specs.Act.{EntryKind, IsVariable, IsConstant, is_name, ScopeEntry, found}
+use Rattle.theory_meaning.specs.Act.{EntryKind, IsVariable, IsConstant, is_name, ScopeEntry, OfName, found}
 use Rattle.theory_meaning.specs.Engine.{Engine, Binding, or_else, constant_named}
+use Rattle.theory_meaning.specs.Desugar.{core_stmts}
 use Rattle.theory_meaning.specs.Tree.{Script}
 use Rattle.theory_rewriting.specs.Known.{Known, look, Fits, Agrees}
-use Rattle.theory_rewriting.specs.Scripts.{fixed_value, known_in, known_of, known_at_top, known_in_bodies, captures_nothing, known_inside}
+use Rattle.theory_rewriting.specs.Scripts.{fixed_value, known_in, known_of, known_at_top, known_in_bodies, known_globals, captures_nothing, known_inside}
 use Rattle.theory_soundness.proofs.simulation.Agreement.{agrees_nothing}
+use Rattle.theory_soundness.proofs.soundness.Globals.{Promises, promised, promises_as, promises_nothing, look_with_globals, globals_in_bodies}
 
 later_wins : (o : Option Value) (b : Bool) (v : Value) (p : Option Value) → or_else o (cond b (Some v) p) ≡ or_else (or_else o (cond b (Some v) None)) p
 later_wins (Some u) b v p = refl
@@ -18,7 +20,7 @@ later_wins None false v p = refl
 look_record : (bs : List Binding) (ks : List Known) (x : Text) → look (known_of bs ++ ks) x ≡ or_else (constant_named bs x) (look ks x)
 look_record [] ks x = refl
 look_record (b ∷ bs) ks x =
-    let k : Known = record { name = b.name; value = Some b.value } in
+    let k : Known = record { root = OfName b.name; value = Some b.value } in
     ap (λ ls. look ls x) (append_assoc (known_of bs) (k ∷ []) ks) ∙ look_record bs (k ∷ ks) x ∙ later_wins (constant_named bs x) (same_text b.name x) b.value (look ks x)
 
 -- a value of the record's
@@ -54,6 +56,13 @@ agrees_in_bodies engine scope = record {
 
 pub agrees_inside : (engine : Engine) (scope : List ScopeEntry) (p : Script) → Agrees engine.constants (known_inside engine scope p) []
 agrees_inside engine scope p = by (captures_nothing p) where
-  by : (b : Bool) → Agrees engine.constants (cond b (known_in_bodies engine scope) []) []
-  by true = agrees_in_bodies engine scope
+  by : (b : Bool) → Agrees engine.constants (cond b (known_in_bodies engine scope ++ known_globals p.statements) []) []
+  by true = let z = agrees_in_bodies engine scope in record { is = λ x v h. z.is x v (sym (look_with_globals (known_in_bodies engine scope) p.statements x) ∙ h) }
   by false = agrees_nothing engine.constants []
+
+-- the script's own list declares what bodies know of its constants
+pub promises_inside : (engine : Engine) (scope : List ScopeEntry) (p : Script) → Promises (known_inside engine scope p) (core_stmts false p.statements)
+promises_inside engine scope p = by (captures_nothing p) where
+  by : (b : Bool) → Promises (cond b (known_in_bodies engine scope ++ known_globals p.statements) []) (core_stmts false p.statements)
+  by true = promises_as (known_in_bodies engine scope ++ known_globals p.statements) (known_globals p.statements) (globals_in_bodies engine scope (known_globals p.statements)) (core_stmts false p.statements) (promised false p.statements)
+  by false = promises_nothing [] (λ x. refl) (core_stmts false p.statements)

@@ -2,16 +2,16 @@ use Rattle.std.proofs.Common.{refl, sym, ap, ◌∙◌, arith}
 use Rattle.std.proofs.lemmas.Result.{on_ok_weaker}
 use Rattle.opt_reducer.proofs.Flattening.{flattens_noop, flattens_block, flattens_push, flattens_as, giving-block, moves_start, moves_next, moves_end, empty-stmts_of, differ}
 use Rattle.theory_meaning.specs.Weight.{stmt_weight}
-use Rattle.opt_base.specs.State.{known_of}
+use Rattle.opt_reducer.proofs.Parts.{same_known}
 use Rattle.opt_reducer.proofs.blocks.+flatten.Goals as goal
 use Rattle.opt_reducer.proofs.blocks.+flatten.Goals.{block_gives_way-else-is_wanted-via-then-is_wanted+else-is_empty, block_gives_way-else-is_wanted-via-else-is_wanted}
 
 pub block_gives_way-returns-then-is_empty : goal.block_gives_way-returns-then-is_empty
-block_gives_way-returns-then-is_empty t c = flattens_noop _ _ _ _ c.set_dirty.ensures.flag (ap known_of c.set_dirty.ensures.names) c.if-is_wanted.true (c.if-is_empty.ensures.0 refl) c.in_ok-push_stmt.ensures.ok
+block_gives_way-returns-then-is_empty t c = flattens_noop _ _ _ _ c.set_dirty.ensures.flag (same_known c.args.state.now c.set_dirty.new.self c.set_dirty.ensures.names c.set_dirty.ensures.setting) c.if-is_wanted.true (c.if-is_empty.ensures.0 refl) c.in_ok-push_stmt.ensures.ok
 
 pub block_gives_way-returns : goal.block_gives_way-returns
 block_gives_way-returns t c =
-    on_ok_weaker _ (λ p. flattens_block c.set_dirty.ensures.flag (ap known_of c.set_dirty.ensures.names) c.requires (λ e w. elim c.else-is_wanted.branch [
+    on_ok_weaker _ (λ p. flattens_block c.set_dirty.ensures.flag (same_known c.args.state.now c.set_dirty.new.self c.set_dirty.ensures.names c.set_dirty.ensures.setting) c.requires (λ e w. elim c.else-is_wanted.branch [
       | block_gives_way-else-is_wanted-via-then-is_wanted+else-is_empty v ↦ differ (v.if-is_empty.ensures.1 (empty-stmts_of _ e))
       | block_gives_way-else-is_wanted-via-else-is_wanted v ↦ differ (sym (w ∙ v.if-is_wanted.false))
     ]) p) (rw c.of_block.ensures at c.flatten_statements.ensures)

@@ -1,8 +1,9 @@
 use Rattle.std.proofs.Common.{◌-◌, drop, length, refl, ap, ◌∙◌}
-use Rattle.opt_base.specs.State.{progress}
+use Rattle.opt_base.specs.State.{Setting, progress}
 use Rattle.theory_rewriting.specs.Known.{shadow_all}
-use Rattle.rhai_optimizer.proofs.Bodies.{body_run, unshadowed}
-use Rattle.opt_reducer.proofs.Parts.{counted, forgotten}
+use Rattle.theory_rewriting.proofs.Running.{drop_front}
+use Rattle.rhai_optimizer.proofs.Bodies.{body_run, shadowed}
+use Rattle.opt_reducer.proofs.Parts.{forgotten}
 use Rattle.rhai_optimizer.proofs.functions.function_body.Goals as goal
 
 pub returns-clause-run : goal.returns-clause-run
@@ -11,6 +12,9 @@ returns-clause-run c =
 
 pub returns-clause-known : goal.returns-clause-known
 returns-clause-known c =
-    let n = c.len-len.result in
-    let pushed = c.in_ok-push_params.ensures.1 ∙ ap (λ xs. shadow_all xs (progress c.args.state.now).known) c.as_slice.ensures in
-    unshadowed c.args.function.now.params n _ _ (counted n _ c.len-len.ensures) (forgotten n c.make_passes.new.state.entries c.rewind_var.new.self.entries c.rewind_var.ensures.names ∙ ap (λ l. drop (length l - n) l) (c.in_ok-passes.ensures.known ∙ pushed))
+    let before = (progress c.args.state.now).known in
+    let pushed = c.in_ok-push_params.ensures.1 ∙ ap (λ xs. shadow_all xs before) c.as_slice.ensures in
+    let f = shadowed c.args.function.now.params before in
+    let h = c.in_ok-passes.ensures.known ∙ pushed ∙ f.1 in
+    forgotten c.len-len.result c.args.state.now.entries c.make_passes.new.state.entries c.rewind_var.new.self.entries c.args.state.now.setting.globals c.make_passes.new.state.setting.globals c.rewind_var.new.self.setting.globals f.0 c.len-len.ensures f.2 h (ap (λ (s : Setting). s.globals) c.rewind_var.ensures.setting) c.rewind_var.ensures.names
+    ∙ ap (λ l. drop (length l - length before) l) h ∙ drop_front f.0 before

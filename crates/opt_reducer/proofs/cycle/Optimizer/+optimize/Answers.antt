@@ -1,7 +1,7 @@
-use Rattle.std.proofs.Common.{◌≡◌, ◌<◌, rules, ◌||◌, List, length, Option, refl, sym, ap, ◌∙◌, subst, arith}
+use Rattle.std.proofs.Common.{◌≡◌, ◌<◌, rules, ◌||◌, List, ◌++◌, length, Option, refl, sym, ap, ◌∙◌, subst, arith}
 use Rattle.std.proofs.lemmas.Result.{on_ok_weaker}
 use Rattle.std.specs.declared.num.NonZeroUsize.{NonZeroUsize}
-use Rattle.opt_base.specs.State.{progress}
+use Rattle.opt_base.specs.State.{Setting, progress, known_of, globals_known}
 use Rattle.base_tokens.specs.declared.op_assignment.OpAssignment.{OpAssignment}
 use Rattle.base_tokens.specs.declared.ident.Ident.{Ident}
 use Rattle.rhai_base.specs.declared.dynamic.Dynamic.{Dynamic}
@@ -19,7 +19,7 @@ use Rattle.theory_meaning.specs.Weight.{stmt_weight, weight}
 use Rattle.theory_rewriting.proofs.Firing.{expr_done, stmt_pass, stmt_fits, stmt_early, stmt_fired_falls, subject_then, subject_fired, subject_fits}
 use Rattle.theory_rewriting.proofs.Running.{text_run, array_run, map_run, braces_run, call_run, method_run, and_run, or_run, coalesce_run, chain_dot_run, chain_index_run, both_sides, both_links, both_rounds, both_assigned, steps_end, steps_on, steps_member, steps_none, argument_as, brackets_run, member_run, member_stays, target_run, target_stays, arm_run, loop_while, loop_do, for_kept, var_kept, assign_kept, try_kept, import_kept, break_run, return_run, maybe_some_run, call_statement_run, if_run, block_run, expression_run, item_run, each_noted, list_run, list_then, list_fits, list_again, list_again_falls, list_done, counts, tries}
 use Rattle.opt_reducer.proofs.Flattening.{flat_pass}
-use Rattle.opt_reducer.proofs.Parts.{expr_as, stmt_as, table_written, for_as, maybe_from, maybe_same, sides_dot_at, sides_index_at, link_dot_at, link_index_at, steps_as, argument_spelled, target_as, no_chain, no_method, expr_stays, stmt_stays, counted, forgotten, subject_written, arms_written, subject_kept, subject_none, arms_kept, condition_kept, open_still, undecided, once_by, once_done}
+use Rattle.opt_reducer.proofs.Parts.{expr_as, stmt_as, table_written, for_as, maybe_from, maybe_same, sides_dot_at, sides_index_at, link_dot_at, link_index_at, steps_as, argument_spelled, target_as, no_chain, no_method, expr_stays, stmt_stays, forgotten, fresh_with, loop_names_alone, catch_name_alone, subject_written, arms_written, subject_kept, subject_none, arms_kept, condition_kept, open_still, undecided, once_by, once_done}
 use Rattle.theory_rewriting.specs.Steps.{HasReducedSubject}
 use Rattle.opt_reducer.specs.Parts.{record_of}
 use Rattle.opt_reducer.proofs.UpTo.{up_next, up_end, exprs_by, pairs_by, arms_by, stmts_by, each_next}
@@ -290,13 +290,13 @@ pub counted-body-requires : goal.counted-body-requires
 counted-body-requires t c = (omega (arith, ap (λ (b : StmtBlock). weight (stmts_of b.block)) c.in_ok-condition.ensures.0), tt)
 
 pub counted-returns : goal.counted-returns
-counted-returns t c = (refl, (refl, for_as c.in_ok-condition.ensures.0 c.in_ok-body.ensures.0 (counts _ _ _ c.in_ok-condition.ensures.1.1 (counted c.len-len.result _ c.len-len.ensures) c.in_ok-push_loop_names.ensures c.in_ok-body.ensures.1 c.rewind_var.ensures.flag (forgotten c.len-len.result c.body.new.state.entries c.rewind_var.new.self.entries c.rewind_var.ensures.names))))
+counted-returns t c = (refl, (refl, for_as c.in_ok-condition.ensures.0 c.in_ok-body.ensures.0 (counts _ _ _ c.in_ok-condition.ensures.1.1 refl c.in_ok-push_loop_names.ensures c.in_ok-body.ensures.1 c.rewind_var.ensures.flag (forgotten c.len-len.result _ c.body.new.state.entries c.rewind_var.new.self.entries _ c.body.new.state.setting.globals c.rewind_var.new.self.setting.globals _ c.len-len.ensures (loop_names_alone _ _) (c.in_ok-body.ensures.1.known ∙ c.in_ok-push_loop_names.ensures.1) (ap (λ (s : Setting). s.globals) c.rewind_var.ensures.setting) c.rewind_var.ensures.names))))
 
 pub assigned-returns : goal.assigned-returns
 assigned-returns t c = on_ok_weaker _ (both_assigned c.in_ok-target.ensures) c.expr.ensures
 
 pub attempt-returns : goal.attempt-returns
-attempt-returns t c = (tries _ _ c.in_ok-block.ensures (counted c.len-len.result _ c.len-len.ensures) c.in_ok-push_catch_name.ensures c.in_ok-block-2.ensures c.rewind_var.ensures.flag (forgotten c.len-len.result c.block-2.new.state.entries c.rewind_var.new.self.entries c.rewind_var.ensures.names), refl)
+attempt-returns t c = (tries _ _ c.in_ok-block.ensures refl c.in_ok-push_catch_name.ensures c.in_ok-block-2.ensures c.rewind_var.ensures.flag (forgotten c.len-len.result _ c.block-2.new.state.entries c.rewind_var.new.self.entries _ c.block-2.new.state.setting.globals c.rewind_var.new.self.setting.globals _ c.len-len.ensures (catch_name_alone _) (c.in_ok-block-2.ensures.known ∙ c.in_ok-push_catch_name.ensures.1) (ap (λ (s : Setting). s.globals) c.rewind_var.ensures.setting) c.rewind_var.ensures.names), refl)
 
 pub maybe-returns-in-Some : goal.maybe-returns-in-Some
 maybe-returns-in-Some t c = on_ok_weaker _ (λ r. maybe_from (ap maybe_of c.in-Some.is ∙ ap (λ (e : Expr). an_expr (expr_of e)) (sym c.get_mut.ensures.value)) (maybe_some_run r)) c.expr.ensures
@@ -314,6 +314,15 @@ item-returns-then-not-are_known t c = rw c.if-not-are_known.true ((refl, refl), 
 pub item-returns : goal.item-returns
 item-returns t c = rw c.if-not-are_known.false ((refl, refl), item_run c.in_ok-stmt-2.ensures c.in_ok-declare.ensures.0 c.in_ok-declare.ensures.1)
 
+pub each-loop-at-init : goal.each-loop-at-init
+each-loop-at-init t c = record {
+  fresh = record {
+    clear = c.without_names-unknown.ensures.flag;
+    nameless = ap (λ es. known_of es ++ globals_known c.without_names-unknown.result.setting.globals) c.without_names-unknown.ensures.names ∙ fresh_with c.args.state.now.entries c.args.state.now.setting.globals c.without_names-unknown.result.setting.globals c.without_names-unknown.ensures.globals;
+  };
+  to = record { len = refl; fits = omega arith; to = λ d2 new p. p };
+}
+
 pub each-loop-at-preserved : goal.each-loop-at-preserved
 each-loop-at-preserved t c =
     let lt : c.loop-at.at < length c.loop-at.statements = omega (arith, c.len-at-end.ensures, c.loop-at-test.true, c.loop-at.invariant.to.len) in
@@ -326,7 +335,7 @@ each-returns t c =
 -- each gone over, and then flattened
 pub list-returns : goal.list-returns
 list-returns t c =
-    on_ok_weaker _ (λ f. list_run c.len-before.result (counted c.len-before.result _ c.len-before.ensures) c.in_ok-each.ensures c.rewind_var.ensures.flag (forgotten c.len-before.result c.each.new.state.entries c.rewind_var.new.self.entries c.rewind_var.ensures.names) f.to f.reduced f.clear f.flat f.known) c.flatten.ensures
+    on_ok_weaker _ (λ f. list_run _ refl c.in_ok-each.ensures c.rewind_var.ensures.flag (forgotten c.len-before.result _ c.each.new.state.entries c.rewind_var.new.self.entries _ c.each.new.state.setting.globals c.rewind_var.new.self.setting.globals c.in_ok-each.ensures.front c.len-before.ensures c.in_ok-each.ensures.names c.in_ok-each.ensures.known (ap (λ (s : Setting). s.globals) c.rewind_var.ensures.setting) c.rewind_var.ensures.names) f.to f.reduced f.clear f.flat f.known) c.flatten.ensures
 
 -- swept, until no last `return` is bared
 pub stmt_block-loop-state-init : goal.stmt_block-loop-state-init

@@ -2,7 +2,7 @@ use Rattle.std.proofs.Common.{◌≡◌, rules, true, false, ◌&&◌, not, refl
 use Rattle.ast_types.specs.Reading.{shapes, shared_names, stmt_of, stmt_of-Share}
 use Rattle.ast_types.proofs.Cases.{stmt_cases}
 use Rattle.theory_meaning.specs.Tree.{Share}
-use Rattle.opt_base.specs.State.{known_of}
+use Rattle.opt_base.specs.State.{progress}
 use Rattle.opt_stmts.specs.Firing.{answer}
 use Rattle.opt_stmts.specs.SettledAssignments.{shares_nothing, is_settled_share}
 use Rattle.opt_stmts.proofs.FiredStatements.{fires_as}
@@ -16,7 +16,7 @@ returns-then-is_empty-clause-step c = λ r w. fires_as (ap stmt_of c.in-Share.is
 
 pub returns-then-not-knows_some-clause-answer : goal.returns-then-not-knows_some-clause-answer
 returns-then-not-knows_some-clause-answer c =
-    let ks = known_of c.args.state.now.entries in
+    let ks = (progress c.args.state.now).known in
     let x = ap stmt_of c.in-Share.is ∙ stmt_of-Share _ in
     stays_shared ks (shared_names c.in-Share.names) (nothing-of c.in-Share.names _ (rw (c.get.ensures ∙ c.in-Share.names-is) at c.if-is_empty.ensures)) (rw (c.as_slice.ensures, c.get-in-Share.ensures ∙ c.in-Share.names-is) at c.if-not-knows_some.ensures)
     ∙ ap (λ s. answer (not (shares_nothing s) && is_settled_share ks s)) (sym x)

@@ -19,7 +19,7 @@ use Rattle.theory_meaning.specs.ActForms.{ask_host}
 use Rattle.theory_meaning.specs.Calls as calls
 use Rattle.theory_meaning.specs.Calls.{call_named, key}
 use Rattle.theory_meaning.specs.Core as core
-use Rattle.theory_meaning.specs.Run.{bind, seen}
+use Rattle.theory_meaning.specs.Run.{bind, called_from, seen}
 use Rattle.theory_meaning.specs.Control.{counted}
 use Rattle.theory_meaning.specs.Desugar.{core_expr, core_stmts, ends_in_call}
 use Rattle.theory_meaning.specs.Shape.{is_unit}
@@ -93,10 +93,7 @@ statements-returns g t c = stmts_end _ _ _ _ _ _ _ (omega arith) c.loop-statemen
 -- braces
 pub block-returns : goal.block-returns
 block-returns g t c =
-    let old = c.args.state.now in
-    let ended = c.statements-ended.new.state in
-    let left : State = record { scope = c.truncate.new.self; this = ended.this; calls = ended.calls; turns = ended.turns } in
-    block_runs _ _ _ old ended left _ _ (omega (arith, c.len-names.ensures, old.scope.ok.0)) (record { scope = c.truncate.ensures.items; this = refl; calls = refl; turns = refl }) (rw c.statements.ensures at c.statements-ended.ensures)
+    block_runs _ _ _ c.args.state.now c.begin_list-mark.new.self c.statements-ended.new.state c.end_list.new.self _ (record { begun = c.begin_list-mark.ensures.store; before = c.begin_list-mark.ensures.turns; left = c.end_list.ensures.store (store_of c.args.state.now) c.begin_list-mark.ensures.mark; after = c.end_list.ensures.turns }) (rw c.statements.ensures at c.statements-ended.ensures)
 
 -- `&&`, `||` and `??`
 pub both-loop-operand-init : goal.both-loop-operand-init
@@ -350,10 +347,7 @@ try_catch-returns-in-Some-2 g t c = try_catches (setting g.H.Host.answers g.H.Ho
 
 pub catch-returns : goal.catch-returns
 catch-returns g t c =
-    let old = c.args.state.now in
-    let ended = c.statements-ended.new.state in
-    let left : State = record { scope = c.truncate.new.self; this = ended.this; calls = ended.calls; turns = ended.turns } in
-    catch_runs (setting g.H.Host.answers g.H.Host.modules c.args.self.now.machine) (core_stmts c.args.self.now.in_loop (stmts_of c.args.branch.now.block)) (option_copied c.args.name) c.args.caught old c.declare_caught.new.state ended left c.len-names.result c.statements-ended.result c.branch_ended.result (omega (arith, c.len-names.ensures, old.scope.ok.0)) c.in_ok-declare_caught.ensures.store c.in_ok-declare_caught.ensures.turns ((rw c.statements.ensures at c.statements-ended.ensures) false) (record { scope = c.truncate.ensures.items; this = refl; calls = refl; turns = refl }) c.branch_ended.ensures
+    catch_runs (setting g.H.Host.answers g.H.Host.modules c.args.self.now.machine) (core_stmts c.args.self.now.in_loop (stmts_of c.args.branch.now.block)) (option_copied c.args.name) c.args.caught c.args.state.now c.begin_list-mark.new.self c.declare_caught.new.state c.statements-ended.new.state c.end_list.new.self c.statements-ended.result c.branch_ended.result c.in_ok-declare_caught.ensures.store c.in_ok-declare_caught.ensures.turns ((rw c.statements.ensures at c.statements-ended.ensures) false) (record { begun = c.begin_list-mark.ensures.store; before = c.begin_list-mark.ensures.turns; left = c.end_list.ensures.store (store_of c.args.state.now) c.begin_list-mark.ensures.mark; after = c.end_list.ensures.turns }) c.branch_ended.ensures
 
 pub map-returns : goal.map-returns
 map-returns g t c = map_runs (setting g.H.Host.answers g.H.Host.modules c.args.self.now.machine) c.args.self.now.in_loop (pairs_of c.args.literal.now.0) (keys_of c.args.literal.now.1) c.args.state.now c.members.new.state c.in_ok-members.field-0 ((rw c.as_slice.ensures at c.in_ok-is_map.ensures) ∙ c.if-not-branch.false) (rw c.as_slice-2.ensures at c.in_ok-members.ensures)
@@ -411,9 +405,7 @@ for_body-returns g t c = λ k e. for_body_runs (setting g.H.Host.answers g.H.Hos
 
 pub for_round-returns : goal.for_round-returns
 for_round-returns g t c =
-    let ended = c.for_body-ended.new.state in
-    let left : State = record { scope = c.truncate.new.self; this = ended.this; calls = ended.calls; turns = ended.turns } in
-    λ k e. for_round_runs (setting g.H.Host.answers g.H.Host.modules c.args.self.now.machine) (counted (counter_of c.args.parts.now.1) k (Named c.args.parts.now.0.name IsVariable (value_of c.args.item) (body_of (setting g.H.Host.answers g.H.Host.modules c.args.self.now.machine) (stmts_of c.args.parts.now.2.body.block)))) c.args.state.now c.take_turn.new.self ended left c.len-names.result c.in_ok-take_turn.field-0 c.for_body-ended.result c.round_ended.result c.in_ok-take_turn.ensures (omega (arith, c.len-names.ensures, c.take_turn.new.self.scope.ok.0)) (c.for_body-ended.ensures k e) (record { scope = c.truncate.ensures.items; this = refl; calls = refl; turns = refl }) c.round_ended.ensures
+    λ k e. for_round_runs (setting g.H.Host.answers g.H.Host.modules c.args.self.now.machine) (counted (counter_of c.args.parts.now.1) k (Named c.args.parts.now.0.name IsVariable (value_of c.args.item) (body_of (setting g.H.Host.answers g.H.Host.modules c.args.self.now.machine) (stmts_of c.args.parts.now.2.body.block)))) c.args.state.now c.take_turn.new.self c.begin_list-mark.new.self c.for_body-ended.new.state c.end_list.new.self c.in_ok-take_turn.field-0 c.for_body-ended.result c.round_ended.result c.in_ok-take_turn.ensures (record { begun = c.begin_list-mark.ensures.store; before = c.begin_list-mark.ensures.turns; left = c.end_list.ensures.store (store_of c.take_turn.new.self) c.begin_list-mark.ensures.mark; after = c.end_list.ensures.turns }) (c.for_body-ended.ensures k e) c.round_ended.ensures
 
 pub for_each-returns-in_err-value : goal.for_each-returns-in_err-value
 for_each-returns-in_err-value g t c = let p = err_from_is_err_and c.from_residual.result c.from_residual.ensures.1 in rw (p.1, p.2) (each_stops (setting g.H.Host.answers g.H.Host.modules c.args.self.now.machine) c.args.parts.now.0.name (counter_of c.args.parts.now.1) (body_of (setting g.H.Host.answers g.H.Host.modules c.args.self.now.machine) (stmts_of c.args.parts.now.2.body.block)) c.args.items c.loop-item.rest c.next.new.self c.in-Some.item c.loop-item.count c.args.state.now c.loop-item.state c.for_round.new.state c.in-Some.ensures c.loop-item.invariant _ c.in_err-value.ensures)
@@ -583,18 +575,18 @@ invoke-returns-in_err-take_turn g t c = let p = err_from_is_err_and c.from_resid
 pub invoke-returns : goal.invoke-returns
 invoke-returns g t c =
     let turn = c.in_ok-take_turn.ensures in
-    let start = (rw c.as_slice-params.ensures at c.in_ok-body.ensures.store) ∙ ap (λ (st : Store). record { scope = bind c.args.function.now.params (map value_of c.args.args) (seen c.args.captures st.scope); this = option_map value_of c.args.this; calls = st.calls }) turn.1 in
+    let start = (rw c.as_slice-params.ensures at c.in_ok-body.ensures.store) ∙ ap (λ (st : Store). called_from st (bind c.args.function.now.params (map value_of c.args.args) (seen c.args.captures st.scope)) (option_map value_of c.args.this)) turn.1 in
     let turns = turn.0 ∙ ap suc (sym c.in_ok-body.ensures.turns) in
-    let back = back_is c.args.state.now c.take_turn.new.self c.enter.new.self c.resume-this.new.self c.statements-ended.new.state turn.1 c.in_ok-body.ensures.scope c.in_ok-body.ensures.around c.resume-this.ensures.store in
+    let back = back_is c.args.state.now c.take_turn.new.self c.enter.new.self c.resume-this.new.self c.statements-ended.new.state turn.1 c.in_ok-body.ensures.scope c.in_ok-body.ensures.around c.in_ok-body.ensures.own c.resume-this.ensures.store in
     let ran = (rw (c.in-Some.ensures.0, c.statements.ensures) at c.statements-ended.ensures) true in
     λ h next. rw c.resume-this.ensures.this (invoke_goes (setting g.H.Host.answers g.H.Host.modules c.args.self.now.machine) (record { function = definition_key c.args.function.now; captures = c.args.captures; this = option_map value_of c.args.this; arguments = (map value_of c.args.args) }) next _ h c.args.state.now c.in_ok-body.body c.statements-ended.new.state turns start c.resume-this.new.self back c.resume-this.ensures.turns c.statements-ended.result c.in_ok-function_ended.field-0 ran (rw c.in_ok-function_ended.was at c.function_ended.ensures))
 
 pub invoke-returns-in_err-function_ended : goal.invoke-returns-in_err-function_ended
 invoke-returns-in_err-function_ended g t c =
     let turn = c.in_ok-take_turn.ensures in
-    let start = (rw c.as_slice-params.ensures at c.in_ok-body.ensures.store) ∙ ap (λ (st : Store). record { scope = bind c.args.function.now.params (map value_of c.args.args) (seen c.args.captures st.scope); this = option_map value_of c.args.this; calls = st.calls }) turn.1 in
+    let start = (rw c.as_slice-params.ensures at c.in_ok-body.ensures.store) ∙ ap (λ (st : Store). called_from st (bind c.args.function.now.params (map value_of c.args.args) (seen c.args.captures st.scope)) (option_map value_of c.args.this)) turn.1 in
     let turns = turn.0 ∙ ap suc (sym c.in_ok-body.ensures.turns) in
-    let back = back_is c.args.state.now c.take_turn.new.self c.enter.new.self c.resume-this.new.self c.statements-ended.new.state turn.1 c.in_ok-body.ensures.scope c.in_ok-body.ensures.around c.resume-this.ensures.store in
+    let back = back_is c.args.state.now c.take_turn.new.self c.enter.new.self c.resume-this.new.self c.statements-ended.new.state turn.1 c.in_ok-body.ensures.scope c.in_ok-body.ensures.around c.in_ok-body.ensures.own c.resume-this.ensures.store in
     let ran = (rw (c.in-Some.ensures.0, c.statements.ensures) at c.statements-ended.ensures) true in
     let p = err_from_is_err_and c.from_residual-in_err-function_ended.result c.from_residual-in_err-function_ended.ensures.1 in
     λ h next. rw (p.1, p.2) (invoke_stops (setting g.H.Host.answers g.H.Host.modules c.args.self.now.machine) (record { function = definition_key c.args.function.now; captures = c.args.captures; this = option_map value_of c.args.this; arguments = (map value_of c.args.args) }) next _ h c.args.state.now c.in_ok-body.body c.statements-ended.new.state turns start c.resume-this.new.self back c.resume-this.ensures.turns c.statements-ended.result _ ran (rw c.in_err-function_ended.was at c.function_ended.ensures))

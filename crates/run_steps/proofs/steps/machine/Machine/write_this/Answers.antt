@@ -5,4 +5,4 @@ use Rattle.run_steps.proofs.Writing.{this_replaced}
 use Rattle.run_steps.proofs.steps.machine.Machine.write_this.Goals as goal
 
 pub returns : goal.returns
-returns g c = this_replaced (setting g.H.Host.answers g.H.Host.modules c.args.self.now) (value_of c.args.value) c.args.state.now c.in-Some.this c.args.value _ c.in-Some.is refl refl refl refl refl
+returns g c = this_replaced (setting g.H.Host.answers g.H.Host.modules c.args.self.now) (value_of c.args.value) c.args.state.now c.in-Some.this c.args.value _ c.in-Some.is refl refl refl refl
