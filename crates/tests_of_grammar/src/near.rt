@@ -46,7 +46,13 @@ fn told(alloc: Global, text: &str, tree: &str) -> Result<&'static str, AllocErro
     }
 }
 
-fn push_row(head: &str, told: &str, tree: &str, said: &mut String) -> Result<(), AllocError> {
+/// Says what a tree is to a text.
+pub(crate) fn push_row(
+    head: &str,
+    told: &str,
+    tree: &str,
+    said: &mut String,
+) -> Result<(), AllocError> {
     said.push_str(head)?;
     said.push_str(": ")?;
     said.push_str(told)?;

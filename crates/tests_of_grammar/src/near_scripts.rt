@@ -1,5 +1,6 @@
 //! Texts with scripts, which they spell or do not.
 
+use crate::near::push_row;
 use notation_print::push_script;
 use notation_read::read_script;
 use rhai_script::AST;
@@ -30,7 +31,7 @@ fn met_of(alloc: Global, block: Block<'_>, said: &mut String) -> Result<usize, A
         if told == wanted {
             met = met.saturating_add(1);
         } else {
-            writeln!(said, "{}: {told}\n{}", block.head, tree.trim())?;
+            push_row(block.head, told, tree.trim(), said)?;
         }
     }
     Ok(met)
